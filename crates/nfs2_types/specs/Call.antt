@@ -1,0 +1,45 @@
+-- A call as plain lists and numbers: what its arguments say, wherever their bytes lie (RFC 1094, 2.2).
+use Rattle.std.specs.Prelude.{ℕ, List}
+use Rattle.nfs2_types.specs.declared.args.Sattr.{Sattr}
+use Rattle.nfs2_types.specs.declared.args.Args.{Args}
+
+pub data Call : Type 0 where
+  null : Call
+  root : Call
+  write_cache : Call
+  get_attr : (node : List ℕ) → Call
+  set_attr : (node : List ℕ) (sattr : Sattr) → Call
+  lookup : (dir name : List ℕ) → Call
+  read_link : (node : List ℕ) → Call
+  read : (file : List ℕ) (offset count : ℕ) → Call
+  write : (file : List ℕ) (offset : ℕ) (bytes : List ℕ) → Call
+  create : (dir name : List ℕ) (sattr : Sattr) → Call
+  remove : (dir name : List ℕ) → Call
+  rename : (from name to to_name : List ℕ) → Call
+  link : (node dir name : List ℕ) → Call
+  symlink : (dir name text : List ℕ) (sattr : Sattr) → Call
+  make_dir : (dir name : List ℕ) (sattr : Sattr) → Call
+  remove_dir : (dir name : List ℕ) → Call
+  read_dir : (dir : List ℕ) (cookie count : ℕ) → Call
+  stat_fs : (node : List ℕ) → Call
+
+-- what the arguments of the program say
+abbrev pub call_of : Args → Call
+call_of Args.Null = null
+call_of Args.Root = root
+call_of Args.WriteCache = write_cache
+call_of (Args.GetAttr node) = get_attr node
+call_of (Args.SetAttr node sattr) = set_attr node sattr
+call_of (Args.Lookup dir name) = lookup dir name.now
+call_of (Args.ReadLink node) = read_link node
+call_of (Args.Read file offset count) = read file offset count
+call_of (Args.Write file offset bytes) = write file offset bytes.now
+call_of (Args.Create dir name sattr) = create dir name.now sattr
+call_of (Args.Remove dir name) = remove dir name.now
+call_of (Args.Rename from name to to_name) = rename from name.now to to_name.now
+call_of (Args.Link node dir name) = link node dir name.now
+call_of (Args.Symlink dir name text sattr) = symlink dir name.now text.now sattr
+call_of (Args.MkDir dir name sattr) = make_dir dir name.now sattr
+call_of (Args.RmDir dir name) = remove_dir dir name.now
+call_of (Args.ReadDir dir cookie count) = read_dir dir cookie count
+call_of (Args.StatFs node) = stat_fs node

@@ -1,0 +1,6 @@
+pub mod Bytes
+pub mod Call
+pub mod Counts
+pub mod Handle
+pub mod Names
+pub mod Times

@@ -1,0 +1,56 @@
+//! On whose behalf a call is made.
+
+ghost use Rattle.std.specs.Prelude.{List, ℕ, take, ◌≤◌, ◌<◌, ◌≡◌, ◌++◌, ◌∷◌, [], length};
+
+use std::marker::Model;
+
+/// At most sixteen group numbers, which contracts see as their list (RFC 5531, appendix A).
+#[derive(Debug, Drop)]
+pub struct Blob16 {
+    words: [u32; 16],
+    len: usize,
+}
+
+impl Model for Blob16 {
+    ghost Value = { List ℕ };
+
+    ghost view = { λ g. take g.len g.words };
+
+    ghost invariant = { λ g. g.len ≤ 16 };
+}
+
+impl Blob16 {
+    /// No groups. It takes no memory.
+    pub fn new() -> Blob16
+        ensures { result ≡ [] }
+    {
+        Blob16 {
+            words: [0; 16],
+            len: 0,
+        }
+    }
+
+    /// Puts one more group behind the others. It takes no memory.
+    pub fn push(&mut self, gid: u32)
+        requires { length self.old < 16 }
+        ensures { self.new ≡ self.old ++ gid ∷ [] }
+    {
+        self.words[self.len] = gid;
+        self.len += 1;
+    }
+
+    /// The groups in their order.
+    pub fn as_slice(&self) -> &[u32]
+        ensures { result.now ≡ self.now }
+    {
+        &self.words[..self.len]
+    }
+}
+
+/// The caller of a call: a user, its group, and further groups.
+#[derive(Debug, Drop)]
+pub struct Cred {
+    pub uid: u32,
+    pub gid: u32,
+    pub gids: Blob16,
+}

@@ -1,0 +1,24 @@
+//! The values of NFS version 2 (RFC 1094) and of its callers that every crate speaks of.
+#![tactic(auto)]
+
+mod args;
+mod blob;
+mod cred;
+mod fattr;
+mod handle;
+mod limits;
+mod results;
+pub mod stat;
+mod time;
+mod word;
+
+pub use args::{Args, Sattr, SetTime};
+pub use blob::{Blob, NoMemory};
+pub use cred::{Blob16, Cred};
+pub use fattr::{Fattr, Kind};
+pub use handle::{Digest, Handle, Oid, handle_of, oid_of};
+pub use limits::Limits;
+pub use results::{ListEntry, Listing, NfsResult};
+pub use stat::Stat;
+pub use time::Time;
+pub use word::Word;

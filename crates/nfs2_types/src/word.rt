@@ -1,0 +1,10 @@
+//! What a replica casts for a request.
+
+use crate::blob::Blob;
+
+/// A replica's word on a request: no reply, or the bytes of one.
+#[derive(Debug, Drop, PartialEq)]
+pub enum Word {
+    Silent,
+    Reply(Blob),
+}
