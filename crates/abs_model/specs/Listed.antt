@@ -1,0 +1,38 @@
+-- What READDIR gives of a directory (RFC 1094, 2.2.17).
+use Rattle.std.specs.Prelude.{ℕ, ◌+◌, ◌-◌, ◌*◌, ◌/◌, min, List, [], ◌∷◌, ◌==◌, nat_le, if◌then◌else◌, length, drop}
+use Rattle.nfs2_types.specs.declared.ListEntry.{ListEntry}
+use Rattle.nfs2_types.specs.declared.NfsResult.{NfsResult}
+use Rattle.nfs2_types.specs.declared.NfsResult.TheVariants.{Entries}
+use Rattle.abs_model.specs.declared.entry.NameRow.{NameRow}
+use Rattle.abs_model.specs.declared.entry.Entry.{Entry}
+use Rattle.nfs2_types.specs.Names.{name_dot, name_dots}
+use Rattle.abs_model.specs.Objects.{names_of}
+use Rattle.abs_model.specs.Array.{entry_at, parent}
+
+-- the names in order, their cookies counted from this one
+abbrev pub numbered : ℕ → List NameRow → List ListEntry
+numbered cookie [] = []
+numbered cookie (r ∷ rs) = record { fileid = r.index + 1; name = r.name; cookie = cookie } ∷ numbered (cookie + 1) rs
+
+-- all entries of a directory
+abbrev pub listing : List Entry → ℕ → List ListEntry
+listing A d =
+    record { fileid = d + 1; name = name_dot; cookie = 1 } ∷
+    record { fileid = parent A d + 1; name = name_dots; cookie = 2 } ∷
+    numbered 3 (names_of (entry_at A d))
+
+-- the words 1, fileid and cookie, and the name with its length and padding
+abbrev pub room_of : ListEntry → ℕ
+room_of e = 16 + (length e.name + 3) / 4 * 4
+
+-- the longest run from the first that takes at most this room
+abbrev pub fitting : ℕ → List ListEntry → List ListEntry
+fitting room [] = []
+fitting room (e ∷ es) = if nat_le (room_of e) room then e ∷ fitting (room - room_of e) es else []
+
+-- the answer to a cookie and a count; eight bytes close the list
+abbrev pub listed : List Entry → ℕ → ℕ → ℕ → NfsResult
+listed A d cookie count =
+    let rest = drop cookie (listing A d) in
+    let given = fitting (min count 8192 - 8) rest in
+    Entries given (length given == length rest)

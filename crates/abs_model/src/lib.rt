@@ -1,0 +1,6 @@
+//! The abstract file service: arrays of entries, and what each call of NFS version 2 does to one.
+#![tactic(auto)]
+
+mod entry;
+
+pub use entry::{Attr, Change, Entry, NameRow, Names, Object};

@@ -1,0 +1,3 @@
+pub mod SoftLaws
+pub mod SumLaws
+pub mod TreeLaws

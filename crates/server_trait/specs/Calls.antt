@@ -1,0 +1,103 @@
+-- What each call of a file server may do: which errors apply to it, and what its Ok has done.
+use Rattle.std.specs.Prelude.{◌≡◌, ◌≢◌, ℕ, ◌+◌, List, Option, Some, None, Result, Ok, Err, IsSomeAnd}
+use Rattle.std.specs.FinMap.{insert, empty}
+use Rattle.server_trait.specs.Tree.{Tree, Node, Content, NamesOf, Server, node_at, names_in, target, kind_of, size_of, links_of, new_node, with_attr, with_node, edited, named}
+use Rattle.server_trait.specs.Step.{Counts, Outcome, Called, IsStale, IsNo, HasName, LacksName, NoRoom}
+use Rattle.server_trait.specs.declared.server.SrvErr.{SrvErr}
+use Rattle.server_trait.specs.declared.server.SrvErr.TheVariants.{Stale, NoEnt, Exists, NotDir, Full, Fault, NoMemory}
+use Rattle.server_trait.specs.declared.server.ServerLimits.{ServerLimits}
+use Rattle.server_trait.specs.declared.server.NodeAttr.{NodeAttr}
+
+-- CALLS ON ANY NODE
+
+-- the errors of a call on a node of any kind
+abbrev pub NodeErr : List ℕ → Tree → SrvErr → Type 0
+NodeErr h t Stale = IsStale t h
+NodeErr h t e = ⊥
+
+-- what a server tells of a node; its time is free
+pub record IsAttr (t : Tree) (h : List ℕ) (a : NodeAttr) (n : Node) : Type 0 where
+  pub kind : a.kind ≡ kind_of n.content
+  pub number : a.number ≡ n.number
+  pub mode : a.mode ≡ n.mode
+  pub uid : a.uid ≡ n.uid
+  pub gid : a.gid ≡ n.gid
+  pub size : a.size ≡ size_of n.content
+  pub links : a.links ≡ links_of t h n.content
+
+-- `attr`
+abbrev pub Attr : Server → List ℕ → Result NodeAttr SrvErr → Server → Type 0
+Attr old h r new = Called (λ t. Outcome (λ a after. IsSomeAnd (node_at t h) (IsAttr t h a) × (after ≡ Some t)) (NodeErr h t) t) old r new
+
+-- `set_attr`
+abbrev pub SetAttr : Server → List ℕ → ℕ → ℕ → ℕ → Result Unit SrvErr → Server → Type 0
+SetAttr old h mode uid gid r new = Called (λ t. Outcome (λ _ after. after ≡ Some (edited t h (with_attr mode uid gid))) (NodeErr h t) t) old r new
+
+-- NAMES
+
+-- the errors of a call on a directory
+abbrev pub DirErr : List ℕ → Tree → SrvErr → Type 0
+DirErr dir t Stale = IsStale t dir
+DirErr dir t NotDir = IsNo names_in t dir
+DirErr dir t e = ⊥
+
+-- the errors of a call on a name that a directory should have
+abbrev pub LookupErr : List ℕ → List ℕ → Tree → SrvErr → Type 0
+LookupErr dir name t NoEnt = LacksName t dir name
+LookupErr dir name t e = DirErr dir t e
+
+-- `lookup`
+abbrev pub Lookup : Server → List ℕ → List ℕ → Result (List ℕ) SrvErr → Server → Type 0
+Lookup old dir name r new = Called (λ t. Outcome (λ h after. (target t dir name ≡ Some h) × (after ≡ Some t)) (LookupErr dir name t) t) old r new
+
+-- NEW NAMES
+
+-- the errors of a call that makes a node of so many bytes under a new name
+abbrev pub MakeErr : ServerLimits → List ℕ → List ℕ → ℕ → Tree → SrvErr → Type 0
+MakeErr limits dir name bytes t Exists = HasName t dir name
+MakeErr limits dir name bytes t Full = NoRoom limits t 1 0 (512 + bytes)
+MakeErr limits dir name bytes t e = DirErr dir t e
+
+-- no node has the number
+abbrev pub IsNewNumber : Tree → ℕ → Type 0
+IsNewNumber t number = (q : List ℕ) (n : Node) → node_at t q ≡ Some n → n.number ≢ number
+
+-- the name leads to a new node, whose handle and number are new
+pub record Made (t : Tree) (dir name : List ℕ) (content : Content) (h : List ℕ) (new : Option Tree) : Type 0 where
+  pub number : ℕ
+  pub new_number : IsNewNumber t number
+  pub new_handle : node_at t h ≡ None
+  pub after : new ≡ Some (named (with_node t h (new_node number content)) dir name h)
+
+-- a new node whose content has so many bytes
+abbrev pub Make : Content → ℕ → Server → List ℕ → List ℕ → Result (List ℕ) SrvErr → Server → Type 0
+Make content bytes old dir name r new = Called (λ t. Outcome (Made t dir name content) (MakeErr old.limits dir name bytes t) t) old r new
+
+-- `mkdir`: a directory without names
+abbrev pub Mkdir : Server → List ℕ → List ℕ → Result (List ℕ) SrvErr → Server → Type 0
+Mkdir old dir name r new = Make (NamesOf empty) 0 old dir name r new
+
+-- THE WHOLE SERVER
+
+-- `root`
+abbrev pub RootIs : Server → List ℕ → Type 0
+RootIs s h = (t : Tree) → s.tree ≡ Some t → h ≡ t.root
+
+-- an empty root
+pub record IsFresh (new : Option Tree) : Type 0 where
+  pub root : List ℕ
+  pub number : ℕ
+  pub after : new ≡ Some (record { root = root; nodes = insert empty root (new_node number (NamesOf empty)) })
+
+-- what stands after a wipe
+abbrev pub WipeOutcome : Result Unit SrvErr → Option Tree → Type 0
+WipeOutcome (Ok _) after = IsFresh after
+WipeOutcome (Err Fault) after = after ≡ None
+WipeOutcome (Err NoMemory) after = after ≡ None
+WipeOutcome (Err e) after = ⊥
+
+-- it works in any state
+pub record Wipe (old : Server) (r : Result Unit SrvErr) (new : Server) : Type 0 where
+  pub tree : WipeOutcome r new.tree
+  pub limits : new.limits ≡ old.limits
+  pub faults : Counts old.faults new.faults r

@@ -1,0 +1,4 @@
+pub mod Calls
+pub mod Step
+pub mod Sums
+pub mod Tree

@@ -1,0 +1,137 @@
+//! The calls of a file server.
+
+ghost use Rattle.std.specs.Prelude.{◌≡◌, ◌≤◌, ◌+◌, true, length};
+ghost use Rattle.nfs2_types.specs.Names.{is_name};
+ghost use Rattle.server_trait.specs.Tree.{Server};
+ghost use Rattle.server_trait.specs.Step.{HasTree};
+ghost use Rattle.server_trait.specs.Calls.{RootIs, Attr, Lookup, SetAttr, Mkdir, Wipe};
+
+use nfs2_types::{Blob, Handle, Kind, Time};
+use std::alloc::Global;
+use thiserror::Error;
+
+/// The most that a server holds: nodes, and bytes of files and links with 512 for each name.
+#[derive(Clone, Copy, Debug, PartialEq, Eq)]
+pub struct ServerLimits {
+    pub nodes: u32,
+    pub bytes: u64,
+}
+
+/// The attributes of a node. `size` is in bytes, or for a directory the number of its names; `links` is the number of
+/// names that lead to it, or for a directory the number of its subdirectories. Nothing is said of `time`.
+#[derive(Clone, Copy, Debug, PartialEq, Eq)]
+pub struct NodeAttr {
+    pub kind: Kind,
+    pub number: u64,
+    pub mode: u32,
+    pub uid: u32,
+    pub gid: u32,
+    pub size: u32,
+    pub links: u32,
+    pub time: Time,
+}
+
+/// Why a server does not do a call. Where several of the first nine apply, any of them may be answered.
+#[derive(Debug, Drop, Error)]
+pub enum SrvErr {
+    #[error("no such handle")]
+    Stale,
+    #[error("no such name")]
+    NoEnt,
+    #[error("the name is taken")]
+    Exists,
+    #[error("not a directory")]
+    NotDir,
+    #[error("another kind of node")]
+    WrongKind,
+    #[error("the directory has names")]
+    NotEmpty,
+    #[error("a directory can't move below itself")]
+    Subtree,
+    #[error("the server does not do this")]
+    Refused,
+    #[error("the server is full")]
+    Full,
+    #[error("the server failed")]
+    Fault,
+    #[error("out of memory")]
+    NoMemory,
+}
+
+/// A file server: a tree of nodes under handles of its own. After `Fault` or `NoMemory` it has no tree until a
+/// `wipe` answers Ok; any other error leaves the tree as it was.
+pub trait FileServer: Drop {
+    /// Its tree, if it has one, its limits, and how often it has failed.
+    ghost state: { Self → Server };
+
+    /// The most that it holds, which never changes.
+    fn limits(&self) -> ServerLimits
+        ensures { result ≡ (state self.now).limits };
+
+    /// The handle of the root.
+    fn root(&self) -> Handle
+        requires { HasTree (state self.now) }
+        ensures { RootIs (state self.now) result };
+
+    /// The attributes of a node. Errors: Stale.
+    fn attr(&mut self, node: &Handle) -> Result<NodeAttr, SrvErr>
+        requires { HasTree (state self.old) }
+        ensures { Attr (state self.old) node.now result (state self.new) };
+
+    /// The handle to which a name leads. Errors: Stale, NotDir, NoEnt.
+    fn lookup(&mut self, dir: &Handle, name: &[u8]) -> Result<Handle, SrvErr>
+        requires tree { HasTree (state self.old) }
+        requires name { is_name name.now ≡ true }
+        ensures { Lookup (state self.old) dir.now name.now result (state self.new) };
+
+    /// Sets the mode and the owners of a node. Errors: Stale.
+    fn set_attr(&mut self, node: &Handle, mode: u32, uid: u32, gid: u32) -> Result<(), SrvErr>
+        requires { HasTree (state self.old) }
+        ensures { SetAttr (state self.old) node.now mode uid gid result (state self.new) };
+
+    /// Makes a directory of mode, uid and gid 0. Errors: Stale, NotDir, Exists, Full.
+    fn mkdir(&mut self, dir: &Handle, name: &[u8]) -> Result<Handle, SrvErr>
+        requires tree { HasTree (state self.old) }
+        requires name { is_name name.now ≡ true }
+        ensures { Mkdir (state self.old) dir.now name.now result (state self.new) };
+
+    /// Makes an empty root, whatever was there. It works in any state.
+    fn wipe(&mut self) -> Result<(), SrvErr>
+        ensures { Wipe (state self.old) result (state self.new) };
+}
+
+/// A server of a kind that is not known.
+pub type Srv = Box<dyn FileServer>;
+
+// The calls of a box are those of what is inside. Clauses name what a box is by `⟦<Srv as FileServer>⟧.state`.
+impl FileServer for Srv {
+    ghost state = { λ b. (FileServer-box b).state b.value };
+
+    fn limits(&self) -> ServerLimits {
+        (**self).limits()
+    }
+
+    fn root(&self) -> Handle {
+        (**self).root()
+    }
+
+    fn attr(&mut self, node: &Handle) -> Result<NodeAttr, SrvErr> {
+        (**self).attr(node)
+    }
+
+    fn lookup(&mut self, dir: &Handle, name: &[u8]) -> Result<Handle, SrvErr> {
+        (**self).lookup(dir, name)
+    }
+
+    fn set_attr(&mut self, node: &Handle, mode: u32, uid: u32, gid: u32) -> Result<(), SrvErr> {
+        (**self).set_attr(node, mode, uid, gid)
+    }
+
+    fn mkdir(&mut self, dir: &Handle, name: &[u8]) -> Result<Handle, SrvErr> {
+        (**self).mkdir(dir, name)
+    }
+
+    fn wipe(&mut self) -> Result<(), SrvErr> {
+        (**self).wipe()
+    }
+}
