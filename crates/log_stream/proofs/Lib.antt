@@ -1,0 +1,4 @@
+pub mod Lengths
+pub mod ReadSteps
+pub mod Taken
+pub mod WriteSteps
