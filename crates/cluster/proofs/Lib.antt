@@ -1,0 +1,4 @@
+pub mod AloneSteps
+pub mod Calm
+pub mod Growing
+pub mod Places
