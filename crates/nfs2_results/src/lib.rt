@@ -1,0 +1,6 @@
+//! The results of NFS version 2's procedures (RFC 1094, 2.2), read and written.
+#![tactic(auto)]
+
+mod writing;
+
+pub use writing::write_result;

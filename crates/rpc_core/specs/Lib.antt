@@ -1,0 +1,4 @@
+pub mod Call
+pub mod Cred
+pub mod Reply
+pub mod Words

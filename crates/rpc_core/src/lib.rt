@@ -1,0 +1,12 @@
+//! Calls and replies of ONC RPC version 2 (RFC 5531): the header of a call, and what answers it.
+#![tactic(auto)]
+
+mod call;
+mod cred;
+mod head;
+mod reply;
+mod words;
+
+pub use call::read_call;
+pub use head::{CallHead, Refusal};
+pub use reply::{begin_success, write_refusal};
