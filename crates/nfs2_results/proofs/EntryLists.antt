@@ -1,8 +1,7 @@
 -- The spelling of entries that are written one by one.
-use Rattle.std.proofs.Common.{◌≡◌, ℕ, suc, ◌+◌, ◌<◌, ◌≤◌, List, [], ◌∷◌, ◌++◌, length, drop, get_or, refl, sym, ap, ◌∙◌, add-one, drop-cons, length-drop, arith}
+use Rattle.std.proofs.Common.{◌≡◌, ℕ, suc, ◌+◌, ◌<◌, ◌≤◌, List, [], ◌++◌, length, drop, get_or, sym, ap, ◌∙◌, add-one, drop-cons, length-drop, arith}
 use Rattle.std.proofs.lemmas.List.{nil_from_length}
 use Rattle.nfs2_types.specs.declared.results.ListEntry.{ListEntry}
-use Rattle.xdr_core.specs.Items.{spell_bool}
 use Rattle.nfs2_results.specs.Spelling.{entry_text, entries_text}
 
 pub entries_text-drop : (es : List ListEntry) (i : ℕ) (e : ListEntry) → i < length es → e ≡ get_or es i e → entries_text (drop i es) ≡ entry_text e ++ entries_text (drop (i + 1) es)

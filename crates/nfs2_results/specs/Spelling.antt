@@ -1,5 +1,5 @@
 -- The one spelling of a result, and the results that have one (RFC 1094, 2.2 and 2.3).
-use Rattle.std.specs.Prelude.{◌≡◌, ◌≢◌, ℕ, ◌≤◌, Bool, true, false, List, [], ◌∷◌, ◌++◌, length, All}
+use Rattle.std.specs.Prelude.{◌≢◌, ℕ, ◌≤◌, true, false, List, [], ◌∷◌, ◌++◌, length, All}
 use Rattle.xdr_core.specs.Items.{spell_word, spell_bool, spell_fixed, spell_opaque}
 use Rattle.nfs2_types.specs.declared.fattr.Fattr.{Fattr}
 use Rattle.nfs2_types.specs.declared.results.ListEntry.{ListEntry}

@@ -80,7 +80,13 @@ pub fn write_result(w: &mut Writer, r: &NfsResult) -> Result<(), NoMemory>
             put_entries(w, entries.as_slice())?;
             w.boolean(*eof)
         }
-        NfsResult::Space { tsize, bsize, blocks, bfree, bavail } => {
+        NfsResult::Space {
+            tsize,
+            bsize,
+            blocks,
+            bfree,
+            bavail,
+        } => {
             w.word(0)?;
             w.word(*tsize)?;
             w.word(*bsize)?;

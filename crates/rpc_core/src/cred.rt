@@ -3,7 +3,7 @@ ghost use Rattle.std.specs.Prelude.{◌≡◌, ◌≤◌, IfSome, []};
 ghost use Rattle.xdr_core.specs.Grammar.{Finds, reads, reads_all, listed, item_at};
 ghost use Rattle.rpc_core.specs.Cred.{group, group_count, auth_sys as auth_sys_form, value_of, cred_in};
 
-use nfs2_types::{Cred, Blob16};
+use nfs2_types::{Blob16, Cred};
 use xdr_core::Reader;
 
 fn gid_of(r: &mut Reader<'_>) -> Option<u32>

@@ -1,6 +1,4 @@
-use Rattle.std.proofs.Common.{◌≡◌, ◌++◌, ◌∙◌, List, ℕ, [], drop, ap, sym, append_assoc, arith}
-use Rattle.nfs2_types.specs.declared.results.ListEntry.{ListEntry}
-use Rattle.nfs2_results.specs.Spelling.{entries_text}
+use Rattle.std.proofs.Common.{append_assoc}
 use Rattle.nfs2_results.proofs.EntryLists.{entries_text-drop, drop-past}
 use Rattle.nfs2_results.proofs.writing.put_entries.Goals as goal
 

@@ -1,6 +1,4 @@
-use Rattle.std.proofs.Common.{◌++◌, List, ℕ, take, get_or, ap, append_assoc}
-use Rattle.xdr_core.specs.Items.{spell_word}
-use Rattle.rpc_core.specs.Words.{words}
+use Rattle.std.proofs.Common.{get_or, append_assoc}
 use Rattle.rpc_core.proofs.WordLists.{words-take}
 use Rattle.rpc_core.proofs.words.put_words.Goals as goal
 
