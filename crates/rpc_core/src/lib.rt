@@ -4,9 +4,13 @@
 mod call;
 mod cred;
 mod head;
+mod laws;
 mod reply;
+mod request;
 mod words;
 
 pub use call::read_call;
 pub use head::{CallHead, Refusal};
+pub use laws::{credentials, one_head};
 pub use reply::{begin_success, write_refusal};
+pub use request::write_call;
