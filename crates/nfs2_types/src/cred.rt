@@ -1,6 +1,6 @@
 //! On whose behalf a call is made.
 
-ghost use Rattle.std.specs.Prelude.{List, ℕ, take, ◌≤◌, ◌<◌, ◌≡◌, ◌++◌, ◌∷◌, [], length};
+ghost use Rattle.std.specs.Prelude.{List, ℕ, take, ◌≤◌, ◌<◌, ◌≡◌, ◌↔◌, ◌++◌, ◌∷◌, [], length, IsTrue};
 
 use std::marker::Model;
 
@@ -37,6 +37,21 @@ impl Blob16 {
     {
         self.words[self.len] = gid;
         self.len += 1;
+    }
+
+    /// How many groups there are.
+    pub fn len(&self) -> usize
+        ensures count { result ≡ length self.now }
+        ensures few { result ≤ 16 }
+    {
+        self.len
+    }
+
+    /// Whether there are none.
+    pub fn is_empty(&self) -> bool
+        ensures { IsTrue result ↔ (self.now ≡ []) }
+    {
+        self.len == 0
     }
 
     /// The groups in their order.

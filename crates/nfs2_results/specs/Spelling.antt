@@ -1,0 +1,49 @@
+-- The one spelling of a result, and the results that have one (RFC 1094, 2.2 and 2.3).
+use Rattle.std.specs.Prelude.{◌≢◌, ℕ, ◌≤◌, true, false, List, [], ◌∷◌, ◌++◌, length, All}
+use Rattle.xdr_core.specs.Items.{spell_word, spell_bool, spell_fixed, spell_opaque}
+use Rattle.nfs2_types.specs.declared.fattr.Fattr.{Fattr}
+use Rattle.nfs2_types.specs.declared.results.ListEntry.{ListEntry}
+use Rattle.nfs2_types.specs.declared.results.NfsResult.{NfsResult}
+use Rattle.nfs2_types.specs.declared.results.NfsResult.TheVariants.{Nothing, Refused, Done, Attr, Node, Path, Content, Entries, Space}
+
+-- the seventeen words of the attributes, in their order (2.3.5)
+unfoldable pub fattr_text : Fattr → List ℕ
+fattr_text a =
+    spell_word a.ftype ++ (spell_word a.mode ++ (spell_word a.nlink ++ (spell_word a.uid ++ (spell_word a.gid ++ (spell_word a.size
+    ++ (spell_word a.blocksize ++ (spell_word a.rdev ++ (spell_word a.blocks ++ (spell_word a.fsid ++ (spell_word a.fileid
+    ++ (spell_word a.atime_secs ++ (spell_word a.atime_micros ++ (spell_word a.mtime_secs ++ (spell_word a.mtime_micros
+    ++ (spell_word a.ctime_secs ++ spell_word a.ctime_micros)))))))))))))))
+
+-- an entry behind the word 1 that announces it (2.2.17)
+abbrev pub entry_text : ListEntry → List ℕ
+entry_text e = spell_bool true ++ (spell_word e.fileid ++ (spell_opaque e.name ++ spell_word e.cookie))
+
+-- the entries in their order, and the word 0 behind the last
+abbrev pub entries_text : List ListEntry → List ℕ
+entries_text [] = spell_bool false
+entries_text (e ∷ es) = entry_text e ++ entries_text es
+
+-- a status stands first; OK is 0, and its arm follows
+abbrev pub result_text : NfsResult → List ℕ
+result_text Nothing = []
+result_text (Refused stat) = spell_word stat.0
+result_text Done = spell_word 0
+result_text (Attr a) = spell_word 0 ++ fattr_text a
+result_text (Node handle a) = spell_word 0 ++ (spell_fixed handle ++ fattr_text a)
+result_text (Path text) = spell_word 0 ++ spell_opaque text
+result_text (Content a bytes) = spell_word 0 ++ (fattr_text a ++ spell_opaque bytes)
+result_text (Entries entries eof) = spell_word 0 ++ (entries_text entries ++ spell_bool eof)
+result_text (Space tsize bsize blocks bfree bavail) =
+    spell_word 0 ++ (spell_word tsize ++ (spell_word bsize ++ (spell_word blocks ++ (spell_word bfree ++ spell_word bavail))))
+
+-- the results that have a spelling: no refusal is OK, and texts, bytes and names are within their limits
+abbrev pub HasSpelling : NfsResult → Type 0
+HasSpelling Nothing = Unit {0}
+HasSpelling (Refused stat) = stat.0 ≢ 0
+HasSpelling Done = Unit {0}
+HasSpelling (Attr a) = Unit {0}
+HasSpelling (Node handle a) = Unit {0}
+HasSpelling (Path text) = length text ≤ 1024
+HasSpelling (Content a bytes) = length bytes ≤ 8192
+HasSpelling (Entries entries eof) = All (λ e. length e.name ≤ 255) entries
+HasSpelling (Space tsize bsize blocks bfree bavail) = Unit {0}

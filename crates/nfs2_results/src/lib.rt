@@ -1,0 +1,9 @@
+//! The results of NFS version 2's procedures (RFC 1094, 2.2), read and written.
+#![tactic(auto)]
+
+mod error;
+mod reading;
+mod writing;
+
+pub use error::ResErr;
+pub use writing::write_result;

@@ -1,0 +1,5 @@
+pub mod Call
+pub mod Cred
+pub mod Reply
+pub mod Request
+pub mod Words
