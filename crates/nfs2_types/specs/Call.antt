@@ -1,11 +1,11 @@
 -- A call as plain lists and numbers: what its arguments say, wherever their bytes lie (RFC 1094, 2.2).
 use Rattle.std.specs.Prelude.{ℕ, List, Bool, true, ◌&&◌, nat_lt, nat_le, length, unwrap_or}
 use Rattle.nfs2_types.specs.declared.args.SetTime.{SetTime}
-use Rattle.nfs2_types.specs.declared.args.SetTime.TheVariants.{Keep, Now, At}
 use Rattle.nfs2_types.specs.declared.args.Sattr.{Sattr}
 use Rattle.nfs2_types.specs.declared.args.Args.{Args}
 use Rattle.nfs2_types.specs.Times.{is_time}
 
+-- a call by its procedure
 pub data Call : Type 0 where
   null : Call
   root : Call
@@ -47,22 +47,28 @@ call_of (Args.RmDir dir name) = remove_dir dir name.now
 call_of (Args.ReadDir dir cookie count) = read_dir dir cookie count
 call_of (Args.StatFs node) = stat_fs node
 
--- CALLS WITHIN THEIR BOUNDS
+-- ---- calls within the bounds of their procedures
 
--- the microseconds of a time that is given are below a million
+-- a time that is set is a moment
 abbrev pub set_time_fits : SetTime → Bool
-set_time_fits Keep = true
-set_time_fits Now = true
-set_time_fits (At t) = is_time t
+set_time_fits SetTime.Keep = true
+set_time_fits SetTime.Now = true
+set_time_fits (SetTime.At t) = is_time t
 
--- a mode that is given has twelve bits
+-- a given mode has twelve bits, and the times that are set are moments (RFC 1094, 2.3.6)
 abbrev pub sattr_fits : Sattr → Bool
 sattr_fits s = nat_lt (unwrap_or s.mode 0) 4096 && set_time_fits s.atime && set_time_fits s.mtime
 
--- names of at most 255 bytes, texts of at most 1,024, pieces of at most 8,192, and what is set within its bounds
+-- names of at most 255 bytes, texts of at most 1,024, and bytes to write of at most 8,192 (RFC 1094, 2.3.7, 2.3.8, 2.2.9)
 abbrev pub call_fits : Call → Bool
+call_fits null = true
+call_fits root = true
+call_fits write_cache = true
+call_fits (get_attr node) = true
 call_fits (set_attr node sattr) = sattr_fits sattr
 call_fits (lookup dir name) = nat_le (length name) 255
+call_fits (read_link node) = true
+call_fits (read file offset count) = true
 call_fits (write file offset bytes) = nat_le (length bytes) 8192
 call_fits (create dir name sattr) = nat_le (length name) 255 && sattr_fits sattr
 call_fits (remove dir name) = nat_le (length name) 255
@@ -71,4 +77,5 @@ call_fits (link node dir name) = nat_le (length name) 255
 call_fits (symlink dir name text sattr) = nat_le (length name) 255 && nat_le (length text) 1024 && sattr_fits sattr
 call_fits (make_dir dir name sattr) = nat_le (length name) 255 && sattr_fits sattr
 call_fits (remove_dir dir name) = nat_le (length name) 255
-call_fits _ = true
+call_fits (read_dir dir cookie count) = true
+call_fits (stat_fs node) = true

@@ -1,4 +1,5 @@
 //! A writer of items, each in its one spelling.
+
 ghost use Rattle.std.specs.Prelude.{◌≡◌, ◌++◌, ◌<◌, ◌^◌, length, [], OnOk};
 ghost use Rattle.xdr_core.specs.Items.{spell_word, spell_bool, spell_opaque, spell_fixed};
 
@@ -6,7 +7,7 @@ use nfs2_types::NoMemory;
 use std::alloc::Global;
 use std::marker::Model;
 
-/// Bytes to which items are appended. After an error bytes may stand behind the old ones.
+/// Bytes to which items are appended (RFC 4506, 4). After an error some bytes of the item may stand behind the old ones.
 #[derive(Drop)]
 pub struct Writer {
     bytes: Vec<u8>,
@@ -21,6 +22,7 @@ impl Model for Writer {
 }
 
 impl Writer {
+    /// A writer of no bytes yet. It takes no memory.
     pub fn new(alloc: Global) -> Writer
         ensures { result ≡ [] }
     {
@@ -29,6 +31,7 @@ impl Writer {
         }
     }
 
+    /// Appends a number of four bytes, the high one first (RFC 4506, 4.2).
     #[tactic(auto, unfolding(crate::specs::Items::spell_word))]
     pub fn word(&mut self, v: u32) -> Result<(), NoMemory>
         ensures { OnOk result (self.new ≡ self.old ++ spell_word v) }
@@ -36,12 +39,14 @@ impl Writer {
         self.put(&v.to_be_bytes())
     }
 
+    /// Appends the word 1 for true, and 0 for false (RFC 4506, 4.4).
     pub fn boolean(&mut self, v: bool) -> Result<(), NoMemory>
         ensures { OnOk result (self.new ≡ self.old ++ spell_bool v) }
     {
         self.word(if v { 1 } else { 0 })
     }
 
+    /// Appends a length, the bytes, and their padding (RFC 4506, 4.10 and 4.11).
     #[tactic(auto, unfolding(crate::specs::Items::spell_opaque))]
     pub fn opaque(&mut self, bytes: &[u8]) -> Result<(), NoMemory>
         requires { length bytes.now < 2 ^ 32 }
@@ -51,6 +56,7 @@ impl Writer {
         self.fixed(bytes)
     }
 
+    /// Appends the bytes and their padding (RFC 4506, 4.9).
     #[tactic(auto, unfolding(crate::specs::Items::spell_fixed))]
     pub fn fixed(&mut self, bytes: &[u8]) -> Result<(), NoMemory>
         ensures { OnOk result (self.new ≡ self.old ++ spell_fixed bytes.now) }
@@ -62,6 +68,7 @@ impl Writer {
         Ok(())
     }
 
+    /// The bytes that were written. It takes no memory.
     pub fn into_bytes(self) -> Vec<u8>
         ensures { result.items ≡ self }
     {
@@ -69,6 +76,7 @@ impl Writer {
         bytes
     }
 
+    /// Appends bytes as they are.
     fn put(&mut self, piece: &[u8]) -> Result<(), NoMemory>
         ensures { OnOk result (self.new ≡ self.old ++ piece.now) }
     {
