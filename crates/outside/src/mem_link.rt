@@ -5,6 +5,7 @@ ghost use Rattle.outside.specs.declared.datagram.Datagram.{Datagram};
 
 use crate::datagram::{DATAGRAM_MAX, Datagram, Peer};
 use crate::link::{Link, LinkErr};
+use crate::schedule::Schedule;
 use crate::source::Failed;
 use nfs2_types::Blob;
 use std::alloc::Global;
@@ -15,9 +16,7 @@ use std::collections::VecDeque;
 pub struct MemLink {
     inbox: VecDeque<Datagram>,
     sent: Vec<Datagram>,
-    fails: Vec<u64>,
-    calls: u64,
-    faults: u64,
+    schedule: Schedule,
     ghost sizes: { All (λ datagram. length datagram.bytes ≤ 65536) inbox.items },
 }
 
@@ -32,9 +31,7 @@ impl MemLink {
         MemLink {
             inbox: VecDeque::from_vec(inbox),
             sent: Vec::new(alloc),
-            fails,
-            calls: 0,
-            faults: 0,
+            schedule: Schedule::new(fails),
         }
     }
 
@@ -51,30 +48,24 @@ impl Link for MemLink {
 
     ghost sent = { λ s. Some s.sent.items };
 
-    ghost faults = { λ s. s.faults };
+    ghost faults = { λ s. s.schedule.faults };
 
     fn bind(&mut self, port: u16) -> Result<u16, Failed> {
-        self.calls = self.calls.saturating_add(1);
-        if self.fails.contains(&self.calls) {
-            self.faults = self.faults.saturating_add(1);
+        if self.schedule.fails_now() {
             return Err(Failed);
         }
         if port == 0 { Ok(1) } else { Ok(port) }
     }
 
     fn recv(&mut self) -> Result<Option<Datagram>, LinkErr> {
-        self.calls = self.calls.saturating_add(1);
-        if self.fails.contains(&self.calls) {
-            self.faults = self.faults.saturating_add(1);
+        if self.schedule.fails_now() {
             return Err(LinkErr::Failed);
         }
         Ok(self.inbox.pop_front())
     }
 
     fn send(&mut self, to: Peer, piece: &[u8]) -> Result<(), LinkErr> {
-        self.calls = self.calls.saturating_add(1);
-        if self.fails.contains(&self.calls) {
-            self.faults = self.faults.saturating_add(1);
+        if self.schedule.fails_now() {
             return Err(LinkErr::Failed);
         }
         let Ok(bytes) = Blob::from_slice(*self.sent.allocator(), piece) else {
