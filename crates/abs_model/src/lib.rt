@@ -2,5 +2,7 @@
 #![tactic(auto)]
 
 mod entry;
+mod laws;
 
 pub use entry::{Attr, Change, Entry, NameRow, Names, Object};
+pub use laws::{empty_is_valid, stays_valid, untold_stays};

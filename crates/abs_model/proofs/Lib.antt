@@ -1,0 +1,13 @@
+pub mod AttrBounds
+pub mod Climbs
+pub mod EmptyFacts
+pub mod Facts
+pub mod Kept
+pub mod Law
+pub mod Moved
+pub mod Placed
+pub mod Reach
+pub mod RowLists
+pub mod Shapes
+pub mod Steps
+pub mod Untold
