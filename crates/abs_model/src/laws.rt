@@ -1,6 +1,6 @@
 //! Laws of the machine, over every array and every call.
 
-ghost use Rattle.std.specs.Prelude.{◌≡◌, ◌≤◌, ℕ, List, Contains, true};
+ghost use Rattle.std.specs.Prelude.{◌≡◌, ◌≤◌, ◌<◌, ℕ, List, Contains, length, true};
 ghost use Rattle.nfs2_types.specs.declared.Limits.{Limits};
 ghost use Rattle.nfs2_types.specs.declared.Cred.{Cred};
 ghost use Rattle.nfs2_types.specs.declared.Time.{Time};
@@ -23,6 +23,18 @@ pub fn untold_stays()
     ensures { (limits : Limits) (array : List Entry) (cred : Cred) (t : Time) (call : Call) (index : ℕ) →
         (Contains (told array limits cred t call) index → ⊥) →
         entry_at (array_after array limits cred t call) index ≡ entry_at array index }
+{}
+
+/// Each index that is told lies in the array.
+pub fn told_within()
+    ensures { (limits : Limits) (array : List Entry) (cred : Cred) (t : Time) (call : Call) (index : ℕ) →
+        Valid limits array → Contains (told array limits cred t call) index → index < length array }
+{}
+
+/// An array keeps its length.
+pub fn as_long()
+    ensures { (limits : Limits) (array : List Entry) (cred : Cred) (t : Time) (call : Call) →
+        length (array_after array limits cred t call) ≡ length array }
 {}
 
 /// The array with which a service begins is valid.

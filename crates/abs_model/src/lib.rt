@@ -5,4 +5,4 @@ mod entry;
 mod laws;
 
 pub use entry::{Attr, Change, Entry, NameRow, Names, Object};
-pub use laws::{empty_is_valid, stays_valid, untold_stays};
+pub use laws::{as_long, empty_is_valid, stays_valid, told_within, untold_stays};
