@@ -1,9 +1,10 @@
-
 pub mod ArrayFacts
 pub mod Counted
 pub mod Frames
 pub mod Kept
+pub mod LiveRows
 pub mod Made
 pub mod Named
 pub mod RowFacts
+pub mod Sizes
 pub mod Timed
