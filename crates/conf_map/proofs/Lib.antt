@@ -1,3 +1,4 @@
+pub mod Agrees
 pub mod ArrayFacts
 pub mod Counted
 pub mod Frames

@@ -36,7 +36,7 @@ size_names (BytesOf b) m is = absurd (some_none is refl)
 size_names (TextOf b) m is = absurd (some_none is refl)
 size_names (NamesOf k) m is = ap len (some_same refl is)
 
-used_names : (c : Content) (m : Names) → names_in c ≡ Some m → tree.used_by c ≡ 512 * len m
+pub used_names : (c : Content) (m : Names) → names_in c ≡ Some m → tree.used_by c ≡ 512 * len m
 used_names (BytesOf b) m is = absurd (some_none is refl)
 used_names (TextOf b) m is = absurd (some_none is refl)
 used_names (NamesOf k) m is = ap (λ m. 512 * len m) (some_same refl is)
