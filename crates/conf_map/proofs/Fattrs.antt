@@ -1,0 +1,61 @@
+-- What a client sees of a live row's node is what the array says: the call GETATTR (RFC 1094, 2.2.2).
+use Rattle.std.proofs.Common.{◌≡◌, ◌≢◌, inl, inr, ℕ, zero, suc, ◌+◌, ◌*◌, ◌≤◌, ◌<◌, arith, true, false, Bool, List, [], ◌∷◌, length, slice_get, Option, Some, None, IsSomeAnd, refl, sym, ap, ◌∙◌, subst, cond}
+use Rattle.std.specs.Prelude.{count_by}
+use Rattle.std.specs.FinMap.{len}
+use Rattle.std.proofs.lemmas.List.Sums.{count_by-le-length}
+use Rattle.nfs2_types.specs.declared.fattr.Kind.{Kind}
+use Rattle.nfs2_types.specs.declared.Fattr.{Fattr}
+use Rattle.nfs2_types.specs.declared.Limits.{Limits}
+use Rattle.server_trait.specs.Tree.{Tree, Node, Names, Content, BytesOf, TextOf, NamesOf, node_at, names_at, names_in, size_of, links_of, kind_of, one_if, is_dir_at}
+use Rattle.server_trait.specs.Tree as tree
+use Rattle.server_trait.specs.Calls.{IsAttr}
+use Rattle.server_trait.proofs.TreeLaws.{some_and, some_none, some_same, names_at-node}
+use Rattle.server_trait.specs.declared.server.NodeAttr.{NodeAttr}
+use Rattle.server_trait.specs.declared.bench.ConfEntry.{ConfEntry}
+use Rattle.server_trait.specs.declared.bench.ConfTable.{ConfTable}
+use Rattle.abs_model.specs.declared.entry.Attr.{Attr}
+use Rattle.abs_model.specs.declared.entry.NameRow.{NameRow}
+use Rattle.abs_model.specs.declared.entry.Object.{Object}
+use Rattle.abs_model.specs.declared.entry.Object.TheVariants.{Null, File, Dir, Link}
+use Rattle.abs_model.specs.declared.entry.Entry.{Entry}
+use Rattle.abs_model.specs.Objects.{is_dir, names_of, attr_of}
+use Rattle.abs_model.specs.Array.{entry_at, fattr, fattr_by, parent}
+use Rattle.abs_model.specs.Array as array
+use Rattle.abs_model.specs.Valid.{Valid}
+use Rattle.conf_map.specs.Shown.{attr_by, shown, AreSmall}
+use Rattle.conf_map.specs.Stands.{handle_at, SameNames, SameContent, SameAttr, AreWithin, Stands}
+use Rattle.conf_map.specs.Moves.{IsAt}
+use Rattle.conf_map.proofs.Frames.{entry_at-some}
+use Rattle.conf_map.proofs.ArrayFacts.{fits_at, parent_is}
+use Rattle.conf_map.proofs.Counted.{names_total}
+use Rattle.conf_map.proofs.LiveRows.{at_row, at_handle, same_attr, same_content, has_handle}
+use Rattle.conf_map.proofs.Sizes.{size_agrees, names_agree, same_names}
+use Rattle.conf_map.proofs.Agrees.{links_agrees, not_root}
+
+-- a node has names where its entry is a directory
+is_dir_content : (rows : List ConfEntry) (g : ℕ) (o : Object) (c : Content) → SameContent rows o c → elim (names_in c) [ None ↦ false | Some m ↦ true ] ≡ is_dir (record { generation = g; object = o })
+is_dir_content rows g Null c k = absurd k
+is_dir_content rows g (File a b) c k = ap (λ c. elim (names_in c) as (λ _. Bool) [ None ↦ false | Some m ↦ true ]) k
+is_dir_content rows g (Link a b) c k = ap (λ c. elim (names_in c) as (λ _. Bool) [ None ↦ false | Some m ↦ true ]) k
+is_dir_content rows g (Dir a names) c k = let m = some_and (names_in c) (SameNames rows names) k in ap (λ o. elim o as (λ _. Bool) [ None ↦ false | Some m ↦ true ]) m.1
+
+module _ (limits : Limits) (s : Option Tree) (table : ConfTable) (A : List Entry) (st : Stands s table A) (v : Valid limits A) where
+  -- a row's handle is that of a directory where its entry is one
+  pub dir_agrees : (i : ℕ) (h : List ℕ) → handle_at table.rows.items i ≡ Some h → is_dir_at st.tree h ≡ is_dir (entry_at A i)
+  dir_agrees i h is =
+      let k = at_handle s table A st i h is in
+      ap (λ o. elim o as (λ _. Bool) [ None ↦ false | Some m ↦ true ]) (names_at-node st.tree h k.1 k.3.is_node)
+      ∙ is_dir_content table.rows.items k.2.generation k.2.object k.1.content (same_content s table A st i h k.0 k.1 k.2 k.3)
+      ∙ sym (ap is_dir (entry_at-some A i k.2 k.3.is_entry))
+
+  module _ (i : ℕ) (h : List ℕ) (r : ConfEntry) (n : Node) (e : Entry) (at : IsAt st.tree table A i h r n e) where
+    -- The server counts as many subdirectories of a directory as the array has.
+    pub subdirs_agrees : (m : Names) → names_in n.content ≡ Some m → tree.subdirs st.tree m ≡ array.subdirs A (names_of e)
+    unfolding tree.subdirs
+    subdirs_agrees m is =
+        names_total table.rows.items (names_of e) m (λ x. one_if (is_dir_at st.tree x)) (λ r. cond (is_dir (entry_at A r.index)) 1 0)
+        (fits_at limits A v i e at.is_entry).rising (same_names limits s table A st v i h r n e at m is) (λ r x leads. ap one_if (dir_agrees r.index x leads))
+
+    -- The row of a directory has the index of its parent.
+    pub parent_agrees : is_dir e ≡ true → r.parent ≡ parent A i
+    parent_agrees dir = parent_is limits A v r.parent i (ap is_dir (entry_at-some A i e at.is_entry) ∙ dir) ((st.each i r e at.is_row at.is_entry).parent dir)
