@@ -1,5 +1,13 @@
+pub mod Agrees
+pub mod ArrayFacts
+pub mod Bounds
+pub mod Counted
+pub mod Fattrs
 pub mod Frames
 pub mod Kept
+pub mod LiveRows
 pub mod Made
 pub mod Named
+pub mod RowFacts
+pub mod Sizes
 pub mod Timed
