@@ -1,4 +1,6 @@
 pub mod Frames
+pub mod FreshTable
+pub mod FreshTree
 pub mod Kept
 pub mod Made
 pub mod Named
