@@ -4,6 +4,8 @@ pub mod Bounds
 pub mod Counted
 pub mod Fattrs
 pub mod Frames
+pub mod FreshTable
+pub mod FreshTree
 pub mod Kept
 pub mod LiveRows
 pub mod Made
