@@ -1,5 +1,5 @@
 -- When a server's tree and a table stand for an array.
-use Rattle.std.specs.Prelude.{◌≤◌, ◌≡◌, ◌≢◌, ◌⊎◌, ◌↔◌, ℕ, List, [], ◌∷◌, true, Option, None, Some, slice_get, length, IsSomeAnd, ⊤}
+use Rattle.std.specs.Prelude.{◌+◌, ◌≤◌, ◌≡◌, ◌≢◌, ◌⊎◌, ◌↔◌, ℕ, List, [], ◌∷◌, true, Option, None, Some, slice_get, length, IsSomeAnd, ⊤}
 use Rattle.std.specs.Option.{option_and_then}
 use Rattle.std.specs.Ordering.{nat_cmp}
 use Rattle.std.specs.Cmp.Lexicographic.{slice_cmp}
@@ -7,6 +7,7 @@ use Rattle.std.specs.BTreeMap as ordered
 use Rattle.std.specs.FinMap.{get, insert, empty}
 use Rattle.nfs2_types.specs.declared.Limits.{Limits}
 use Rattle.server_trait.specs.Tree.{Tree, Node, Content, BytesOf, TextOf, Names, node_at, names_at, names_in}
+use Rattle.server_trait.specs.declared.server.ServerLimits.{ServerLimits}
 use Rattle.server_trait.specs.declared.bench.ConfEntry.{ConfEntry}
 use Rattle.server_trait.specs.declared.bench.ConfTable.{ConfTable}
 use Rattle.abs_model.specs.declared.entry.Attr.{Attr}
@@ -126,3 +127,13 @@ pub record StandValid (server : Option Tree) (table : ConfTable) (A : List Entry
   pub within : AreWithin limits
   pub valid : Valid limits A
   pub stands : Stands server table A
+
+-- they stand for an array that is valid for these limits
+pub record StandsValid (limits : Limits) (server : Option Tree) (table : ConfTable) (A : List Entry) : Type 0 where
+  pub valid : Valid limits A
+  pub stands : Stands server table A
+
+-- a server that can hold every array that is valid for these limits, with the root, staging and one node more
+pub record HasRoom (limits : Limits) (most : ServerLimits) : Type 0 where
+  pub nodes : limits.n + 3 ≤ most.nodes
+  pub bytes : limits.t + 1048576 ≤ most.bytes
