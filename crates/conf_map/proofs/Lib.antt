@@ -1,5 +1,6 @@
 pub mod Agrees
 pub mod ArrayFacts
+pub mod Below
 pub mod Bounds
 pub mod Counted
 pub mod Fattrs
@@ -12,4 +13,5 @@ pub mod Made
 pub mod Named
 pub mod RowFacts
 pub mod Sizes
+pub mod Targets
 pub mod Timed
