@@ -3,7 +3,7 @@ use Rattle.std.proofs.Common.{◌≡◌, ℕ, ◌^◌, ◌<◌, ◌≤◌, ◌%�
 use Rattle.std.specs.Prelude.{◌&&◌, unwrap_or, nat_le}
 use Rattle.std.proofs.lemmas.List.{append-nil}
 use Rattle.std.proofs.lemmas.Bool.{leb-true}
-use Rattle.xdr_core.specs.Items.{Item, any_word, Value, Fits, spell, spell_word, spell_fixed, spell_opaque}
+use Rattle.xdr_core.specs.Items.{Item, any_word, Value, Fits, spell, spell_fixed, spell_opaque}
 use Rattle.xdr_core.specs.Grammar.{Spells, Grammar, and_then, gives, item}
 use Rattle.xdr_core.proofs.Formats.{spells_after}
 use Rattle.nfs2_types.specs.declared.args.SetTime.{SetTime}

@@ -5,6 +5,8 @@ mod fields;
 mod laws;
 mod procedures;
 mod reading;
+#[cfg(test)]
+mod tests;
 mod writing;
 
 pub use laws::no_prefix;
