@@ -1,1 +1,4 @@
 mod EntryLists
+mod EntryReads
+mod Limits
+mod ResultReads
