@@ -2,3 +2,4 @@ mod EntryLists
 mod EntryReads
 mod Limits
 mod ResultReads
+mod Written
