@@ -4,4 +4,6 @@ pub mod FreshTree
 pub mod Kept
 pub mod Made
 pub mod Named
+pub mod OneArray
+pub mod RisingRows
 pub mod Timed
