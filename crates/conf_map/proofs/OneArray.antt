@@ -1,25 +1,23 @@
 -- A tree and its table stand for one valid array.
-use Rattle.std.proofs.Common.{◌≡◌, ℕ, zero, suc, ◌<◌, arith, List, [], ◌∷◌, Bool, true, false, Option, Some, None, length, slice_get, IsSomeAnd, refl, sym, ap, ◌∙◌, subst}
-use Rattle.std.specs.Prelude.{◌==◌, ◌&&◌, not}
+use Rattle.std.proofs.Common.{◌≡◌, ℕ, suc, arith, List, [], ◌∷◌, true, Option, Some, None, length, slice_get, IsSomeAnd, refl, sym, ap, ◌∙◌, subst}
 use Rattle.std.specs.List.{list_all}
 use Rattle.std.specs.FinMap.{get}
 use Rattle.std.proofs.lemmas.Bool.{and_parts, eqb-true}
 use Rattle.std.proofs.lemmas.Option.{slice_get_within}
-use Rattle.server_trait.specs.Tree.{Tree, Node, Content, BytesOf, TextOf, NamesOf, Names, node_at, names_in, bytes_in, text_in}
+use Rattle.server_trait.specs.Tree.{Tree, Node, Content, NamesOf, Names, node_at, names_in, bytes_in, text_in}
 use Rattle.server_trait.proofs.TreeLaws.{some_and, some_none, some_same, and_then_some, slice_get-along}
 use Rattle.server_trait.specs.declared.bench.ConfEntry.{ConfEntry}
 use Rattle.server_trait.specs.declared.bench.ConfTable.{ConfTable}
 use Rattle.nfs2_types.specs.declared.Limits.{Limits}
-use Rattle.nfs2_types.specs.Names.{is_name}
 use Rattle.abs_model.specs.declared.entry.Attr.{Attr}
 use Rattle.abs_model.specs.declared.entry.NameRow.{NameRow}
 use Rattle.abs_model.specs.declared.entry.Object.{Object}
 use Rattle.abs_model.specs.declared.entry.Object.TheVariants.{Null, File, Dir, Link}
 use Rattle.abs_model.specs.declared.entry.Entry.{Entry}
-use Rattle.abs_model.specs.Objects.{is_null, names_of, bytes_of, attr_of, row_of}
+use Rattle.abs_model.specs.Objects.{names_of, row_of}
 use Rattle.abs_model.specs.Array.{entry_at}
-use Rattle.abs_model.specs.Valid.{Valid, entry_fits, times_fit, most_bytes, is_rising, leads}
-use Rattle.conf_map.specs.Stands.{handle_at, Placed, Leads, SameAttr, SameNames, Holds, IsObject, RowIs, Stands}
+use Rattle.abs_model.specs.Valid.{Valid, entry_fits, is_rising, leads}
+use Rattle.conf_map.specs.Stands.{handle_at, Leads, SameAttr, SameNames, Holds, IsObject, Stands}
 use Rattle.conf_map.proofs.Frames.{entry_at-some}
 use Rattle.conf_map.proofs.Kept.{one_row}
 use Rattle.conf_map.proofs.RisingRows.{same_rows, row_name, row_passes}
