@@ -14,4 +14,6 @@ pub mod Named
 pub mod RowFacts
 pub mod Sizes
 pub mod Targets
+pub mod OneArray
+pub mod RisingRows
 pub mod Timed
