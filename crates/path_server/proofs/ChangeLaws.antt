@@ -11,13 +11,13 @@ use Rattle.server_trait.specs.declared.server.ServerLimits.{ServerLimits}
 use Rattle.server_trait.proofs.TreeLaws.{some_none, bytes_or_not, get-insert_same, get-insert_other, edited-some, used-edited, used-with_node}
 use Rattle.server_trait.proofs.SumLaws.{total-none}
 use Rattle.server_trait.proofs.SoftLaws.{node_soft}
+use Rattle.path_server.specs.Nodes.{made_node, set_node}
 use Rattle.path_server.specs.Paths.{Paths, IsSound, serial_bytes, dir_node, names_of, nodes_of, the_tree, tree_of}
 use Rattle.path_server.specs.declared.node.PathNode.{PathNode}
 use Rattle.path_server.proofs.Rows.{bytes_exact}
 use Rattle.path_server.proofs.NameLaws.{names_of-none}
 use Rattle.path_server.proofs.NodeLaws.{get-nodes_of, node_at-kept}
 use Rattle.path_server.proofs.Serials.{length-serial_bytes}
-use Rattle.path_server.proofs.MakeLaws.{made_node}
 use Rattle.path_server.proofs.CallLaws.{held_tree}
 
 -- the nodes after one is put in, at whose handle the names stay
@@ -95,8 +95,8 @@ module _ (number : ℕ) (root : List ℕ) (kept : ByBytes PathNode) (paths : Pat
 -- OTHER ATTRIBUTES
 
 module _ (limits : ServerLimits) (next bytes : ℕ) (root : List ℕ) (kept : ByBytes PathNode) (paths : Paths) (h : List ℕ) (p : PathNode) (mode uid gid : ℕ) (is : get kept h ≡ Some p) where
-  abbrev pub changed : PathNode
-  changed = record { number = p.number; mode = mode; uid = uid; gid = gid; names = p.names }
+  abbrev changed : PathNode
+  changed = set_node mode uid gid p
 
   abbrev now : Tree
   now = the_tree root kept paths

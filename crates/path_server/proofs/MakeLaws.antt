@@ -8,20 +8,13 @@ use Rattle.server_trait.specs.Tree.{Tree, Node, ByBytes, NamesOf, node_at, used,
 use Rattle.server_trait.specs.Calls.{Made}
 use Rattle.server_trait.specs.declared.server.ServerLimits.{ServerLimits}
 use Rattle.server_trait.proofs.TreeLaws.{some_none, bytes_or_not, get-insert_same, get-insert_other, edited-some, used-with_node, used-edited}
+use Rattle.path_server.specs.Nodes.{made_node, one_more}
 use Rattle.path_server.specs.Paths.{Paths, IsSound, AreSerials, AreKept, AreCounted, serial_bytes, dir_node, names_of, nodes_of, the_tree}
 use Rattle.path_server.specs.declared.node.PathNode.{PathNode}
 use Rattle.path_server.proofs.Rows.{bytes_exact}
 use Rattle.path_server.proofs.NameLaws.{get-names_of, names_of-insert_same, names_of-insert_other, names_of-none, apart_keys}
 use Rattle.path_server.proofs.NodeLaws.{get-nodes_of, node_at-kept, node_at-none, kept-node_at}
 use Rattle.path_server.proofs.Serials.{length-serial_bytes, kept_fits, next_absent}
-
--- a node as it is made
-abbrev pub made_node : ℕ → PathNode
-made_node number = record { number = number; mode = 0; uid = 0; gid = 0; names = 0 }
-
--- a directory with one name more
-abbrev pub one_more : PathNode → PathNode
-one_more p = record { number = p.number; mode = p.mode; uid = p.uid; gid = p.gid; names = p.names + 1 }
 
 none_of : {A : Type 0} (o : Option A) → ((x : A) → o ≢ Some x) → o ≡ None
 none_of None h = refl

@@ -8,7 +8,7 @@ use Rattle.std.specs.Cmp.Lexicographic.{slice_cmp, nat_list_cmp_total}
 use Rattle.std.specs.Ordering.{nat_cmp, is_eq, match_ordering}
 use Rattle.std.specs.BTreeMap.{insert_entry}
 use Rattle.std.specs.Map.{lookup}
-use Rattle.std.specs.FinMap.{FinMap, IsAntisymmetric, find, put, get, insert, from_entries, same_map, get-from_entries, get-insert, slice_cmp-IsAntisymmetric, nat_cmp-IsAntisymmetric}
+use Rattle.std.specs.FinMap.{FinMap, IsAntisymmetric, find, put, get, insert, empty, from_entries, same_map, get-from_entries, get-insert, slice_cmp-IsAntisymmetric, nat_cmp-IsAntisymmetric}
 use Rattle.std.specs.FinMap.Entries.{by_order, find-put}
 use Rattle.server_trait.proofs.SoftLaws.{some_of}
 
@@ -51,8 +51,16 @@ module _ {X : Type 0} where
       ∙ ap (cond (is_eq (slice_cmp nat_cmp q k)) (Some v)) (sym (get-from_entries nat_list_cmp_total es q))
       ∙ sym (get-insert nat_list_cmp_total (from_entries es) k v q))
 
-  pub insert-rows : (es fs : List (List ℕ × X)) (k : List ℕ) (v : X) → fs ≡ insert_entry (slice_cmp nat_cmp) es k v → from_entries {R = slice_cmp nat_cmp} fs ≡ insert (from_entries es) k v
-  insert-rows es fs k v is = ap from_entries (is ∙ put-row k v es) ∙ insert-put es k v
+  pub insert-rows : (es fs : List (List ℕ × X)) (k : List ℕ) (v w : X) → v ≡ w → fs ≡ insert_entry (slice_cmp nat_cmp) es k v → from_entries {R = slice_cmp nat_cmp} fs ≡ insert (from_entries es) k w
+  insert-rows es fs k v w same is = ap from_entries (is ∙ put-row k v es) ∙ insert-put es k v ∙ ap (insert (from_entries es) k) same
+
+  -- the first insertion, and two
+  pub insert-first : (es fs : List (List ℕ × X)) (k : List ℕ) (v w : X) → es ≡ [] → v ≡ w → fs ≡ insert_entry (slice_cmp nat_cmp) es k v → from_entries {R = slice_cmp nat_cmp} fs ≡ insert empty k w
+  insert-first es fs k v w none same is = insert-rows es fs k v w same is ∙ ap (λ l. insert (from_entries l) k w) none
+
+  pub insert-two : (es fs gs : List (List ℕ × X)) (h k : List ℕ) (u v w x : X) → u ≡ v → w ≡ x → fs ≡ insert_entry (slice_cmp nat_cmp) es h u → gs ≡ insert_entry (slice_cmp nat_cmp) fs k w →
+      from_entries {R = slice_cmp nat_cmp} gs ≡ insert (insert (from_entries es) h v) k x
+  insert-two es fs gs h k u v w x same same' is is' = insert-rows fs gs k w x same' is' ∙ ap (λ m. insert m k x) (insert-rows es fs h u v same is)
 
 -- ROWS WHOSE KEYS ARE VECTORS
 

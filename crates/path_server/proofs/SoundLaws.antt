@@ -1,14 +1,15 @@
 -- What a sound server knows of a directory that it keeps.
-use Rattle.std.proofs.Common.{◌≡◌, ℕ, ◌+◌, ◌^◌, ◌≤◌, ◌<◌, ◌++◌, Bool, true, false, List, length, Some, None, IsSome, refl, sym, ap, ◌∙◌, arith}
-use Rattle.std.specs.FinMap.{get}
+use Rattle.std.proofs.Common.{◌≡◌, ℕ, ◌+◌, ◌^◌, ◌≤◌, ◌<◌, ◌++◌, Bool, true, false, List, length, Some, None, IsSome, IfSome, refl, sym, ap, ◌∙◌, arith}
+use Rattle.std.specs.Prelude.{max}
+use Rattle.std.specs.FinMap.{len, get}
 use Rattle.server_trait.specs.Tree.{Tree, Node, ByBytes, used_by, used, node_at, names_at, target, is_dir_at, subdirs}
 use Rattle.server_trait.specs.declared.server.ServerLimits.{ServerLimits}
 use Rattle.server_trait.proofs.TreeLaws.{share, names_at-node, target-node}
 use Rattle.server_trait.proofs.SoftLaws.{some_of}
-use Rattle.path_server.specs.Paths.{Paths, IsSound, dir_node, names_of, the_tree}
+use Rattle.path_server.specs.Paths.{Paths, IsSound, dir_node, names_of, the_tree, tree_of}
 use Rattle.path_server.specs.declared.node.PathNode.{PathNode}
 use Rattle.path_server.proofs.NameLaws.{get-names_of}
-use Rattle.path_server.proofs.NodeLaws.{node_at-kept, subdirs-all}
+use Rattle.path_server.proofs.NodeLaws.{len-nodes_of, node_at-kept, subdirs-all}
 use Rattle.path_server.proofs.Serials.{kept_fits}
 
 node_used : (t : Tree) (h : List ℕ) (n : Node) → node_at t h ≡ Some n → used_by n.content ≤ used t
@@ -43,3 +44,11 @@ module _ (limits : ServerLimits) (next bytes : ℕ) (root : List ℕ) (kept : By
   pub links_is : p.names ≡ subdirs (the_tree root kept paths) (names_of paths h)
   links_is = sound.counted h p is ∙ sym (subdirs-all (the_tree root kept paths) (names_of paths h) (λ name x at.
       is_dir x (sound.named h name x fits (sym (get-names_of h fits paths name) ∙ at)).1))
+
+-- a tree that is held is within the limits
+pub within : (held : Bool) (limits : ServerLimits) (next bytes : ℕ) (root : List ℕ) (kept : ByBytes PathNode) (paths : Paths) → (held ≡ true → IsSound limits next bytes root kept paths) →
+    IfSome (tree_of held root kept paths) (λ (t : Tree). (len t.nodes ≤ max 1 limits.nodes) × (used t ≤ limits.bytes))
+within true limits next bytes root kept paths sound =
+    let s = sound refl in
+    (rw (len-nodes_of kept paths) s.nodes_most, rw (← s.bytes_used) s.bytes_most)
+within false limits next bytes root kept paths sound = tt

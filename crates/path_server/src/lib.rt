@@ -2,8 +2,10 @@
 #![tactic(auto)]
 
 mod key;
+mod laws;
 mod names;
 mod node;
 mod server;
 
+pub use laws::{no_faults, within_limits};
 pub use server::PathServer;

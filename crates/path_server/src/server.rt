@@ -1,10 +1,10 @@
 //! The server.
 
-ghost use Rattle.std.specs.Prelude.{◌≡◌, ◌≤◌, ◌+◌, ◌++◌, ◌<◌, true, false, max, length, IfOk, OnOk, OnErr, Some, None};
-ghost use Rattle.std.specs.FinMap as map;
+ghost use Rattle.std.specs.Prelude.{◌≡◌, ◌≤◌, ◌+◌, ◌++◌, ◌<◌, true, false, length, IfOk, OnOk, OnErr, Some, None};
+ghost use Rattle.std.specs.FinMap.{get, len, empty};
 ghost use Rattle.server_trait.specs.Tree.{NamesOf};
 ghost use Rattle.server_trait.specs.Calls.{IsFresh, Made};
-ghost use Rattle.path_server.specs.Paths.{IsSound, kept_in, the_tree, tree_of};
+ghost use Rattle.path_server.specs.Paths.{IsSound, kept_in};
 
 use crate::names::PathNames;
 use crate::node::{PathNode, handle_of};
@@ -13,7 +13,8 @@ use server_trait::{FileServer, NodeAttr, ServerLimits, SrvErr};
 use std::alloc::Global;
 use std::collections::BTreeMap;
 
-/// Directories in memory, under handles that are serial numbers. It never answers Fault.
+/// Directories in memory, under handles that are serial numbers. A handle is never given twice, and Fault is never
+/// answered.
 #[derive(Drop)]
 pub struct PathServer {
     alloc: Global,
@@ -29,12 +30,14 @@ pub struct PathServer {
 }
 
 impl PathServer {
+    ghost use Rattle.path_server.specs.State.{nodes_kept, tree_kept, state_of};
+
     /// A server with an empty root. Errors: NoMemory.
     pub fn new(alloc: Global, limits: ServerLimits) -> Result<PathServer, NoMemory>
         requires { limits.bytes ≤ 1073741824 }
+        ensures fresh { IfOk result (λ s. IsFresh (⟦<PathServer as FileServer>⟧.state s).tree) }
         ensures limits { IfOk result (λ s. (⟦<PathServer as FileServer>⟧.state s).limits ≡ limits) }
         ensures faults { IfOk result (λ s. (⟦<PathServer as FileServer>⟧.state s).faults ≡ 0) }
-        ensures fresh { IfOk result (λ s. IsFresh (⟦<PathServer as FileServer>⟧.state s).tree) }
     {
         let mut server = PathServer {
             alloc,
@@ -52,26 +55,19 @@ impl PathServer {
 
     /// Starts afresh with an empty root. Without memory there is no tree.
     fn start(&mut self) -> Result<(), NoMemory>
-        ensures ok { OnOk result (IsFresh (tree_of self.new.held self.new.root (kept_in self.new.nodes.entries) self.new.names)) }
+        ensures ok { OnOk result (IsFresh (state_of self.new).tree) }
         ensures err { OnErr result (self.new.held ≡ false) }
         ensures limits { self.new.limits ≡ self.old.limits }
     {
         self.held = false;
-        // Handles that were given before stay stale. The last serial number is never reached.
+        // No server lasts until its serial numbers are spent.
         let Some(next) = self.next.checked_add(1) else {
             return Err(NoMemory);
-        };
-        let root = PathNode {
-            number: self.next,
-            mode: 0,
-            uid: 0,
-            gid: 0,
-            names: 0,
         };
         self.names = PathNames::new(self.alloc);
         self.nodes.clear();
         self.root = handle_of(self.next);
-        let Ok(_) = self.nodes.insert(self.root, root) else {
+        let Ok(_) = self.nodes.insert(self.root, PathNode::new(self.next)) else {
             return Err(NoMemory);
         };
         self.next = next;
@@ -79,10 +75,43 @@ impl PathServer {
         self.held = true;
         Ok(())
     }
+
+    /// Makes a directory of a new name, where there is room. Without memory there is no tree.
+    fn add_dir(&mut self, dir: &Handle, kept: PathNode, name: &[u8]) -> Result<Handle, NoMemory>
+        requires held { self.old.held ≡ true }
+        requires kept { get (nodes_kept self.old) dir.now ≡ Some kept }
+        requires new_name { get self.old.names (dir.now ++ name.now) ≡ None }
+        requires nodes { len (nodes_kept self.old) < self.old.limits.nodes }
+        requires bytes { self.old.bytes + 512 ≤ self.old.limits.bytes }
+        ensures ok { IfOk result (λ h.
+            Made (tree_kept self.old) dir.now name.now (NamesOf empty) h (state_of self.new).tree) }
+        ensures err { OnErr result (self.new.held ≡ false) }
+        ensures limits { self.new.limits ≡ self.old.limits }
+    {
+        self.held = false;
+        // No server lasts until its serial numbers are spent.
+        let Some(next) = self.next.checked_add(1) else {
+            return Err(NoMemory);
+        };
+        let handle = handle_of(self.next);
+        self.names.insert(self.alloc, dir, name, handle)?;
+        let Ok(_) = self.nodes.insert(handle, PathNode::new(self.next)) else {
+            return Err(NoMemory);
+        };
+        let Ok(_) = self.nodes.insert(*dir, kept.with_name()) else {
+            return Err(NoMemory);
+        };
+        self.next = next;
+        self.bytes += 512;
+        self.held = true;
+        Ok(handle)
+    }
 }
 
 impl FileServer for PathServer {
-    ghost state = { λ s. record { tree = tree_of s.held s.root (kept_in s.nodes.entries) s.names; limits = s.limits; faults = 0 } };
+    ghost use Rattle.path_server.specs.State.{state_of};
+
+    ghost state = { state_of };
 
     fn limits(&self) -> ServerLimits {
         self.limits
@@ -122,13 +151,7 @@ impl FileServer for PathServer {
         let Some(kept) = self.nodes.get(node).copied() else {
             return Err(SrvErr::Stale);
         };
-        let changed = PathNode {
-            number: kept.number,
-            mode,
-            uid,
-            gid,
-            names: kept.names,
-        };
+        let changed = kept.with_attr(mode, uid, gid);
         match self.nodes.insert(*node, changed) {
             Ok(_) => Ok(()),
             Err(_) => {
@@ -159,52 +182,5 @@ impl FileServer for PathServer {
             Ok(()) => Ok(()),
             Err(_) => Err(SrvErr::NoMemory),
         }
-    }
-}
-
-impl PathServer {
-    /// Makes a directory of a new name, where there is room. Without memory there is no tree.
-    fn add_dir(&mut self, dir: &Handle, kept: PathNode, name: &[u8]) -> Result<Handle, NoMemory>
-        requires held { self.old.held ≡ true }
-        requires kept { map.get (kept_in self.old.nodes.entries) dir.now ≡ Some kept }
-        requires fits { length name.now ≤ 255 }
-        requires new_name { map.get self.old.names (dir.now ++ name.now) ≡ None }
-        requires bytes { self.old.bytes + 512 ≤ self.old.limits.bytes }
-        requires nodes { map.len (kept_in self.old.nodes.entries) < self.old.limits.nodes }
-        ensures made { IfOk result (λ h. Made (the_tree self.old.root (kept_in self.old.nodes.entries) self.old.names) dir.now name.now (NamesOf map.empty) h
-            (tree_of self.new.held self.new.root (kept_in self.new.nodes.entries) self.new.names)) }
-        ensures err { OnErr result (self.new.held ≡ false) }
-        ensures limits { self.new.limits ≡ self.old.limits }
-    {
-        self.held = false;
-        let Some(next) = self.next.checked_add(1) else {
-            return Err(NoMemory);
-        };
-        let handle = handle_of(self.next);
-        let made = PathNode {
-            number: self.next,
-            mode: 0,
-            uid: 0,
-            gid: 0,
-            names: 0,
-        };
-        let named = PathNode {
-            number: kept.number,
-            mode: kept.mode,
-            uid: kept.uid,
-            gid: kept.gid,
-            names: kept.names + 1,
-        };
-        self.names.insert(self.alloc, dir, name, handle)?;
-        let Ok(_) = self.nodes.insert(handle, made) else {
-            return Err(NoMemory);
-        };
-        let Ok(_) = self.nodes.insert(*dir, named) else {
-            return Err(NoMemory);
-        };
-        self.next = next;
-        self.bytes += 512;
-        self.held = true;
-        Ok(handle)
     }
 }

@@ -1,9 +1,7 @@
-use Rattle.std.proofs.Common.{ap, ◌∙◌}
-use Rattle.std.specs.FinMap.{insert}
+use Rattle.path_server.specs.Nodes.{made_node}
 use Rattle.path_server.specs.Paths.{kept_in}
-use Rattle.path_server.proofs.Rows.{insert-rows}
+use Rattle.path_server.proofs.Rows.{insert-first}
 use Rattle.path_server.proofs.ChangeLaws.{fresh_after, sound_started}
-use Rattle.path_server.proofs.MakeLaws.{made_node}
 use Rattle.path_server.proofs.server.PathServer.start.Goals as goal
 
 pub invariant_of-self-2 : goal.invariant_of-self-2
@@ -13,7 +11,7 @@ invariant_of-self-2 c =
     record {
       limited = s.limited;
       sound = λ _. sound_started s.next root (kept_in c.insert.new.self.entries) c.new.result c.handle_of-self.ensures
-          (insert-rows c.clear.new.self.entries c.insert.new.self.entries root (made_node s.next) c.in-Ok.ensures.entries ∙ ap (λ es. insert (kept_in es) root (made_node s.next)) c.clear.ensures.empty)
+          (insert-first c.clear.new.self.entries c.insert.new.self.entries root c.new-2.result (made_node s.next) c.clear.ensures.empty c.new-2.ensures c.in-Ok.ensures.entries)
           c.new.ensures s.limits c.in-Some.next c.in-Some.ensures.1;
     }
 
@@ -22,5 +20,5 @@ returns-clause-ok c =
     let s = c.args.self.now in
     let root = c.handle_of-self.result in
     fresh_after s.next root (kept_in c.insert.new.self.entries) c.new.result c.handle_of-self.ensures
-    (insert-rows c.clear.new.self.entries c.insert.new.self.entries root (made_node s.next) c.in-Ok.ensures.entries ∙ ap (λ es. insert (kept_in es) root (made_node s.next)) c.clear.ensures.empty)
+    (insert-first c.clear.new.self.entries c.insert.new.self.entries root c.new-2.result (made_node s.next) c.clear.ensures.empty c.new-2.ensures c.in-Ok.ensures.entries)
     c.new.ensures

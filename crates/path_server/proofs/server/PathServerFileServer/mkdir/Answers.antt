@@ -44,4 +44,4 @@ pub returns-in-Ok : goal.returns-in-Ok
 returns-in-Ok c =
     let s = c.args.self.now in
     mkdir-ok s.held s.limits s.next s.bytes s.root (kept_in s.nodes.entries) s.names s.sound c.args.dir.now c.args.name.now c.in-Ok.handle c.in-Some.kept _ c.add_dir.new.self.limits (get-rows s.nodes.entries c.args.dir.now ∙ sym c.get.ensures.value ∙ sym c.copied.ensures ∙ c.in-Some.is)
-    (sym c.get-2.ensures ∙ none_of c.get-2.result (sym c.if-is_some.ensures)) c.in-Ok.ensures.limits c.in-Ok.ensures.made
+    (sym c.get-2.ensures ∙ none_of c.get-2.result (sym c.if-is_some.ensures)) c.in-Ok.ensures.limits c.in-Ok.ensures.ok

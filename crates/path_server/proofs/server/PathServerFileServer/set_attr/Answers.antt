@@ -1,6 +1,6 @@
 use Rattle.std.proofs.Common.{sym, ◌∙◌}
+use Rattle.path_server.specs.Nodes.{set_node}
 use Rattle.path_server.specs.Paths.{kept_in}
-use Rattle.path_server.specs.declared.node.PathNode.{PathNode}
 use Rattle.path_server.proofs.Rows.{get-rows, insert-rows}
 use Rattle.path_server.proofs.CallLaws.{set_attr-stale}
 use Rattle.path_server.proofs.ChangeLaws.{set_attr-ok, sound_set}
@@ -14,18 +14,18 @@ returns-in_default c =
 pub invariant_of-self : goal.invariant_of-self
 invariant_of-self c =
     let s = c.args.self.now in
-    let n : PathNode = record { number = c.in-Some.kept.number; mode = c.args.mode; uid = c.args.uid; gid = c.args.gid; names = c.in-Some.kept.names } in
+    let n = set_node c.args.mode c.args.uid c.args.gid c.in-Some.kept in
     let is = get-rows s.nodes.entries c.args.node.now ∙ sym c.get.ensures.value ∙ sym c.copied.ensures ∙ c.in-Some.is in
     record {
       limited = s.limited;
-      sound = λ there. rw (insert-rows s.nodes.entries c.insert.new.self.entries c.args.node.now n c.in-Ok.ensures.entries)
+      sound = λ there. rw (insert-rows s.nodes.entries c.insert.new.self.entries c.args.node.now c.with_attr-changed.result n c.with_attr-changed.ensures c.in-Ok.ensures.entries)
           (sound_set s.limits s.next s.bytes s.root (kept_in s.nodes.entries) s.names c.args.node.now c.in-Some.kept c.args.mode c.args.uid c.args.gid is (s.sound there));
     }
 
 pub returns-in-Ok : goal.returns-in-Ok
 returns-in-Ok c =
     let s = c.args.self.now in
-    let n : PathNode = record { number = c.in-Some.kept.number; mode = c.args.mode; uid = c.args.uid; gid = c.args.gid; names = c.in-Some.kept.names } in
+    let n = set_node c.args.mode c.args.uid c.args.gid c.in-Some.kept in
     let is = get-rows s.nodes.entries c.args.node.now ∙ sym c.get.ensures.value ∙ sym c.copied.ensures ∙ c.in-Some.is in
-    rw (insert-rows s.nodes.entries c.insert.new.self.entries c.args.node.now n c.in-Ok.ensures.entries)
+    rw (insert-rows s.nodes.entries c.insert.new.self.entries c.args.node.now c.with_attr-changed.result n c.with_attr-changed.ensures c.in-Ok.ensures.entries)
     (set_attr-ok s.limits s.next s.bytes s.root (kept_in s.nodes.entries) s.names c.args.node.now c.in-Some.kept c.args.mode c.args.uid c.args.gid is s.held)
