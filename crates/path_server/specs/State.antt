@@ -1,5 +1,5 @@
 -- What a path server stands for.
-use Rattle.std.specs.Prelude.{◌≡◌, ◌≤◌, Some, max}
+use Rattle.std.specs.Prelude.{◌≤◌, IfSome, max}
 use Rattle.std.specs.FinMap.{len}
 use Rattle.server_trait.specs.Tree.{Tree, Server, ByBytes, used}
 use Rattle.path_server.specs.Paths.{kept_in, the_tree, tree_of}
@@ -18,6 +18,6 @@ tree_kept s = the_tree s.root (nodes_kept s) s.names
 abbrev pub state_of : PathServer → Server
 state_of s = record { tree = tree_of s.held s.root (nodes_kept s) s.names; limits = s.limits; faults = 0 }
 
--- the tree is within the limits, but for the root
-abbrev pub IsWithin : Server → Tree → Type 0
-IsWithin s t = (len t.nodes ≤ max 1 s.limits.nodes) × (used t ≤ s.limits.bytes)
+-- its tree is within its limits, but for the root
+abbrev pub IsWithin : Server → Type 0
+IsWithin s = IfSome s.tree (λ (t : Tree). (len t.nodes ≤ max 1 s.limits.nodes) × (used t ≤ s.limits.bytes))

@@ -9,3 +9,6 @@ mod server;
 
 pub use laws::{no_faults, within_limits};
 pub use server::PathServer;
+
+#[cfg(test)]
+mod tests;

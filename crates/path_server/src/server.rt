@@ -13,8 +13,7 @@ use server_trait::{FileServer, NodeAttr, ServerLimits, SrvErr};
 use std::alloc::Global;
 use std::collections::BTreeMap;
 
-/// Directories in memory, under handles that are serial numbers. A handle is never given twice, and Fault is never
-/// answered.
+/// Directories in memory, under handles that are serial numbers, which go on after a wipe. It never answers Fault.
 #[derive(Drop)]
 pub struct PathServer {
     alloc: Global,

@@ -29,5 +29,5 @@ returns-clause-ok c =
     made_after s.limits s.next s.bytes s.root (kept_in s.nodes.entries) s.names (s.sound c.requires.held) (omega (arith, next.0))
     c.args.dir.now c.args.name.now c.args.kept c.requires.kept c.requires.new_name c.handle_of-handle.result (kept_in c.insert-3.new.self.entries) c.insert.new.self c.handle_of-handle.ensures
     (insert-two s.nodes.entries c.insert-2.new.self.entries c.insert-3.new.self.entries c.handle_of-handle.result c.args.dir.now c.new.result (made_node s.next) c.with_name.result (one_more c.args.kept)
-          c.new.ensures c.with_name.ensures c.in-Ok.ensures.entries c.in-Ok-insert.ensures.entries)
+    c.new.ensures c.with_name.ensures c.in-Ok.ensures.entries c.in-Ok-insert.ensures.entries)
     c.in_ok-insert.ensures
