@@ -1,5 +1,5 @@
 -- The rows of a map from byte strings, read as a `FinMap`.
-use Rattle.std.proofs.Common.{◌≡◌, ℕ, List, [], ◌∷◌, map, cond, true, false, Option, Some, None, is_some, refl, sym, ap, ◌∙◌}
+use Rattle.std.proofs.Common.{◌≡◌, ℕ, List, [], ◌∷◌, map, cond, true, false, Option, Some, None, is_some, Result, Ok, Err, OnOk, OnErr, refl, sym, ap, ◌∙◌}
 use Rattle.std.specs.Prelude.{Vec}
 use Rattle.std.specs.declared.alloc.Global.{Global}
 use Rattle.std.specs.declared.cmp.Ordering.{Ordering}
@@ -61,6 +61,11 @@ module _ {X : Type 0} where
   pub insert-two : (es fs gs : List (List ℕ × X)) (h k : List ℕ) (u v w x : X) → u ≡ v → w ≡ x → fs ≡ insert_entry (slice_cmp nat_cmp) es h u → gs ≡ insert_entry (slice_cmp nat_cmp) fs k w →
       from_entries {R = slice_cmp nat_cmp} gs ≡ insert (insert (from_entries es) h v) k x
   insert-two es fs gs h k u v w x same same' is is' = insert-rows fs gs k w x same' is' ∙ ap (λ m. insert m k x) (insert-rows es fs h u v same is)
+
+-- what holds after Ok holds where there can be no error
+pub cannot_fail : {A E : Type 0} (r : Result A E) (P Q : Type 0) → OnOk r P → OnErr r Q → (Q → ⊥) → P
+cannot_fail (Ok x) P Q p q n = p
+cannot_fail (Err e) P Q p q n = absurd (n q)
 
 -- ROWS WHOSE KEYS ARE VECTORS
 
