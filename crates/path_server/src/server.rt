@@ -1,6 +1,6 @@
 //! The server.
 
-ghost use Rattle.std.specs.Prelude.{◌≡◌, ◌≤◌, ◌+◌, ◌++◌, ◌<◌, true, false, length, IfOk, OnOk, OnErr, Some, None};
+ghost use Rattle.std.specs.Prelude.{◌≡◌, ◌≤◌, ◌+◌, ◌++◌, ◌<◌, true, false, IfOk, OnOk, OnErr, Some, None};
 ghost use Rattle.std.specs.FinMap.{get, len, empty};
 ghost use Rattle.server_trait.specs.Tree.{NamesOf};
 ghost use Rattle.server_trait.specs.Calls.{IsFresh, Made};
@@ -59,7 +59,7 @@ impl PathServer {
         ensures limits { self.new.limits ≡ self.old.limits }
     {
         self.held = false;
-        // No server lasts until its serial numbers are spent.
+        // A server never lasts until its serial numbers are spent; then it would answer NoMemory.
         let Some(next) = self.next.checked_add(1) else {
             return Err(NoMemory);
         };
@@ -88,7 +88,7 @@ impl PathServer {
         ensures limits { self.new.limits ≡ self.old.limits }
     {
         self.held = false;
-        // No server lasts until its serial numbers are spent.
+        // A server never lasts until its serial numbers are spent; then it would answer NoMemory.
         let Some(next) = self.next.checked_add(1) else {
             return Err(NoMemory);
         };
