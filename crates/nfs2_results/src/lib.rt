@@ -3,6 +3,8 @@
 
 mod error;
 mod reading;
+#[cfg(test)]
+mod tests;
 mod writing;
 
 pub use error::ResErr;
