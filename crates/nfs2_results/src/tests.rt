@@ -53,7 +53,11 @@ fn both_ways(
     }
     let mut w = Writer::new(alloc);
     write_result(&mut w, value)?;
-    assert_eq!(rt; w.into_bytes().as_slice(), bytes.as_slice(), "procedure {proc}");
+    assert_eq!(rt;
+        w.into_bytes().as_slice(),
+        bytes.as_slice(),
+        "procedure {proc}"
+    );
     match read_result(alloc, proc, &bytes) {
         Ok(found) => assert!(rt; found == *value, "procedure {proc}"),
         Err(_) => assert!(rt; false, "procedure {proc}"),
@@ -97,7 +101,13 @@ fn texts(rt: HostRuntime) -> Result<(), Fail> {
         fattr: FATTR,
         bytes: Blob::from_slice(alloc, b"hello")?,
     };
-    both_ways(&rt, alloc, 6, &content, &[&OK, &WORDS, &[0, 0, 0, 5], b"hello\0\0\0"])
+    both_ways(
+        &rt,
+        alloc,
+        6,
+        &content,
+        &[&OK, &WORDS, &[0, 0, 0, 5], b"hello\0\0\0"],
+    )
 }
 
 // RFC 1094, 2.2.17: two entries, the word that ends them, and the end of the directory.
@@ -121,9 +131,19 @@ fn entries(rt: HostRuntime) -> Result<(), Fail> {
         entries: Listing::new(list),
         eof: true,
     };
-    let one = [0, 0, 0, 1, 0, 0, 0, 7, 0, 0, 0, 1, b'.', 0, 0, 0, 0, 0, 0, 1];
-    let two = [0, 0, 0, 1, 0, 0, 0, 8, 0, 0, 0, 4, b'f', b'i', b'l', b'e', 0, 0, 0, 2];
-    both_ways(&rt, alloc, 16, &value, &[&OK, &one, &two, &[0, 0, 0, 0, 0, 0, 0, 1]])
+    let one = [
+        0, 0, 0, 1, 0, 0, 0, 7, 0, 0, 0, 1, b'.', 0, 0, 0, 0, 0, 0, 1,
+    ];
+    let two = [
+        0, 0, 0, 1, 0, 0, 0, 8, 0, 0, 0, 4, b'f', b'i', b'l', b'e', 0, 0, 0, 2,
+    ];
+    both_ways(
+        &rt,
+        alloc,
+        16,
+        &value,
+        &[&OK, &one, &two, &[0, 0, 0, 0, 0, 0, 0, 1]],
+    )
 }
 
 // The place and the kind of the first wrong item.
@@ -131,7 +151,19 @@ fn entries(rt: HostRuntime) -> Result<(), Fail> {
 fn wrong_items(rt: HostRuntime) {
     let alloc = rt.alloc();
     let cut = read_result(alloc, 16, &[0, 0, 0, 0, 0, 0, 0, 1, 0, 0]);
-    assert!(rt; cut.err() == Some(ResErr::Xdr(XdrErr { at: 8, kind: XdrKind::Short })));
+    assert!(rt;
+        cut.err()
+            == Some(ResErr::Xdr(XdrErr {
+                at: 8,
+                kind: XdrKind::Short
+            }))
+    );
     let more = read_result(alloc, 10, &[0, 0, 0, 13, 0]);
-    assert!(rt; more.err() == Some(ResErr::Xdr(XdrErr { at: 4, kind: XdrKind::Extra })));
+    assert!(rt;
+        more.err()
+            == Some(ResErr::Xdr(XdrErr {
+                at: 4,
+                kind: XdrKind::Extra
+            }))
+    );
 }
