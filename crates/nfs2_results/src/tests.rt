@@ -91,7 +91,7 @@ fn results(rt: HostRuntime) -> Result<(), Fail> {
     both_ways(&rt, alloc, 17, &space, &[&OK, &WORDS[..20]])
 }
 
-// RFC 1094, 2.2.5 and 2.2.6: a text and bytes, each filled up to a multiple of four.
+// RFC 1094, 2.2.6 and 2.2.7: a text and bytes, each filled up to a multiple of four.
 #[test]
 fn texts(rt: HostRuntime) -> Result<(), Fail> {
     let alloc = rt.alloc();
