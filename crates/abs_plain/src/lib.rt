@@ -1,13 +1,10 @@
-// A library with one function.
+//! The plain runnable machine: the abstract file service as a program over a list of entries.
 #![tactic(auto)]
 
-ghost use Rattle.std.specs.Prelude.{◌≡◌};
-ghost use Rattle.abs_plain.specs.Echo.{echo_of};
+mod array;
+mod entries;
+mod look;
+mod names;
+mod refusals;
 
-// The `ensures` clause is the contract: what `echo` returns is `echo_of` of its argument, a definition
-// in `specs/Echo.antt`, which a caller's clause can cite too.
-pub fn echo(x: usize) -> usize
-    ensures { result ≡ echo_of x }
-{
-    x
-}
+pub use array::AbsArray;
