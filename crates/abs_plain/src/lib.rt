@@ -2,6 +2,8 @@
 #![tactic(auto)]
 
 mod array;
+mod bytes;
+mod edits;
 mod entries;
 mod look;
 mod names;
