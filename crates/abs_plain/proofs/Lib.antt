@@ -1,2 +1,3 @@
 mod Ends
+mod ListedFacts
 mod Pushes

@@ -6,6 +6,7 @@ use Rattle.abs_model.specs.declared.Entry.{Entry}
 use Rattle.abs_model.specs.Objects.{names_of}
 use Rattle.abs_model.specs.Array.{entry_at, links, at, target, has_name, free, used, parent}
 use Rattle.abs_model.specs.Bounds.{HasBounds}
+use Rattle.abs_plain.specs.Steps.{found}
 
 -- an entry stands at an index
 pub record IsAt (A : List Entry) (i : ℕ) : Type 0 where
@@ -45,6 +46,22 @@ pub record CanRename (A : List Entry) (from name to to_name : List ℕ) : Type 0
   pub within : target A (at A from) name < length A
   pub over : has_name A (at A to) to_name ≡ true → target A (at A to) to_name < length A
   pub few : links A (target A (at A to) to_name) < 2 ^ 64
+
+-- a directory can be listed
+pub record CanList (A : List Entry) (d : ℕ) : Type 0 where
+  pub small : d + 1 < 2 ^ 32
+  pub parent : parent A d + 1 < 2 ^ 32
+  pub rows : All (λ r. r.index + 1 < 2 ^ 32) (names_of (entry_at A d))
+  pub few : length (names_of (entry_at A d)) + 3 < 2 ^ 32
+
+-- a call that only reads can be answered
+abbrev pub CanRead : Limits → List Entry → Call → Type 0
+CanRead limits A (get_attr node) = HasBounds A (at A node)
+CanRead limits A (lookup dir name) = HasBounds A (found A (at A dir) name)
+CanRead limits A (read file offset count) = HasBounds A (at A file)
+CanRead limits A (read_dir dir cookie count) = CanList A (at A dir)
+CanRead limits A (stat_fs node) = used A ≤ limits.t
+CanRead limits A _ = Unit {0}
 
 -- the work of a call that changes the array can be done
 abbrev pub CanChange : List Entry → Call → Type 0

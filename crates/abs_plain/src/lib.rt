@@ -5,8 +5,12 @@ mod array;
 mod bytes;
 mod edits;
 mod entries;
+mod listed;
 mod look;
 mod names;
+mod reads;
 mod refusals;
+mod seen;
+mod writes;
 
 pub use array::AbsArray;
