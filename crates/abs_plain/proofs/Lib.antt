@@ -1,3 +1,5 @@
 mod Ends
 mod ListedFacts
 mod Pushes
+mod Ready
+mod Steps

@@ -11,6 +11,8 @@ mod names;
 mod reads;
 mod refusals;
 mod seen;
+mod step;
 mod writes;
 
 pub use array::AbsArray;
+pub use step::plain_step;
