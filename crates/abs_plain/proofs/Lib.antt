@@ -1,5 +1,7 @@
 mod Ends
 mod ListedFacts
+mod MarkFacts
+mod Orderly
 mod Pushes
 mod Ready
 mod Steps

@@ -1,5 +1,5 @@
 -- a call that is not refused can do its work
-use Rattle.std.proofs.Common.{◌≡◌, ℕ, ◌^◌, ◌+◌, ◌*◌, ◌<◌, ◌≤◌, List, [], ◌∷◌, Bool, true, false, not, ◌&&◌, ◌||◌, length, refl, sym, ◌∙◌, ap, subst, arith, Option, Some, None}
+use Rattle.std.proofs.Common.{◌≡◌, ℕ, ◌^◌, ◌+◌, ◌<◌, List, [], ◌∷◌, Bool, true, false, not, ◌&&◌, ◌||◌, length, refl, sym, ap, subst, arith, Option, None}
 use Rattle.std.specs.Prelude.{unwrap_or, is_some, if◌then◌else◌, bytes_eq, All}
 use Rattle.std.specs.List.{list_all}
 use Rattle.std.proofs.lemmas.List.Elements.{All-nil, All-cons}
@@ -14,7 +14,7 @@ use Rattle.abs_model.specs.declared.NameRow.{NameRow}
 use Rattle.abs_model.specs.declared.Entry.{Entry}
 use Rattle.abs_model.specs.Array.{entry_at, at, target, has_name, changed, free, links, parent}
 use Rattle.abs_model.specs.Objects.{is_dir, names_of, bytes_of}
-use Rattle.abs_model.specs.Machine.{first_of, refusals, changes, found_or_made, no_room, no_new}
+use Rattle.abs_model.specs.Machine.{first_of, refusals, changes, no_room, no_new}
 use Rattle.abs_model.specs.Valid.{Valid, leads}
 use Rattle.abs_model.specs.Bounds.{HasBounds}
 use Rattle.abs_model.proofs.Facts.{AllFalse, none_holds, live_at, dir_is, led_is}
@@ -25,7 +25,7 @@ use Rattle.abs_model.proofs.Within.{target_below}
 use Rattle.abs_model.proofs.Parents.{parent_below}
 use Rattle.abs_model.proofs.Law.{kept, new_is}
 use Rattle.abs_model.proofs.Kept.{free_is}
-use Rattle.abs_plain.specs.Ready.{IsAt, CanTakeOut, CanAdd, CanCreate, CanLink, CanRename, CanList, CanRead, CanChange}
+use Rattle.abs_plain.specs.Ready.{CanTakeOut, CanAdd, CanList, CanRead, CanChange}
 use Rattle.abs_plain.specs.Steps.{found, place_of}
 
 -- no test of a call holds, in a valid array whose limits are words

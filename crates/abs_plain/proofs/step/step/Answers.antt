@@ -1,4 +1,4 @@
-use Rattle.std.proofs.Common.{◌≡◌, List, Option, Some, None, sym, ◌∙◌, subst, ap}
+use Rattle.std.proofs.Common.{List, Some, None, sym, ◌∙◌, subst, ap}
 use Rattle.nfs2_types.specs.Call.{call_of}
 use Rattle.abs_model.specs.declared.Entry.{Entry}
 use Rattle.abs_model.specs.Bounds.{HasBounds}
@@ -68,4 +68,3 @@ returns-clause-array c =
     let after = wrote c.args.limits.now c.args.array.now c.entries-4.result.now c.entries-3.result.now c.put_all.new.self c.args.cred.now c.args.time (call_of c.args.args.now) c.in_ok-edits.edits.items c.place_of-i.result
     c.requires.moment c.requires.fits ok none writes c.entries-4.ensures c.in_ok-edits.ensures c.put_all.ensures c.entries-3.ensures c.place_of-i.ensures in
     after.becomes
-
