@@ -1,7 +1,3 @@
-mod Ends
-mod ListedFacts
-mod MarkFacts
-mod Orderly
 mod Pushes
 mod Ready
 mod Steps

@@ -25,7 +25,8 @@ use Rattle.abs_model.proofs.Within.{target_below}
 use Rattle.abs_model.proofs.Parents.{parent_below}
 use Rattle.abs_model.proofs.Law.{kept, new_is}
 use Rattle.abs_model.proofs.Kept.{free_is}
-use Rattle.abs_plain.specs.Ready.{CanTakeOut, CanAdd, CanList, CanRead, CanChange}
+use Rattle.abs_plain.specs.Ready.{CanTakeOut, CanAdd, CanRead, CanChange}
+use Rattle.abs_queries.specs.Listable.{CanList}
 use Rattle.abs_plain.specs.Steps.{found, place_of}
 
 -- no test of a call holds, in a valid array whose limits are words

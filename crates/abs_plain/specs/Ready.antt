@@ -1,11 +1,11 @@
 -- What the program needs of an array before it does the work of a call.
-use Rattle.std.specs.Prelude.{ℕ, ◌+◌, ◌^◌, ◌<◌, ◌≤◌, ◌≡◌, true, false, List, length, IsSome, All}
+use Rattle.std.specs.Prelude.{ℕ, ◌^◌, ◌<◌, ◌≤◌, ◌≡◌, true, false, List, length, IsSome}
 use Rattle.nfs2_types.specs.declared.Limits.{Limits}
 use Rattle.nfs2_types.specs.Call.{Call, null, root, write_cache, get_attr, set_attr, lookup, read_link, read, write, create, remove, rename, link, symlink, make_dir, remove_dir, read_dir, stat_fs}
 use Rattle.abs_model.specs.declared.Entry.{Entry}
-use Rattle.abs_model.specs.Objects.{names_of}
-use Rattle.abs_model.specs.Array.{entry_at, links, at, target, has_name, free, used, parent}
+use Rattle.abs_model.specs.Array.{links, at, target, has_name, free, used}
 use Rattle.abs_model.specs.Bounds.{HasBounds}
+use Rattle.abs_queries.specs.Listable.{CanList}
 use Rattle.abs_plain.specs.Steps.{found}
 
 -- an entry stands at an index
@@ -46,13 +46,6 @@ pub record CanRename (A : List Entry) (from name to to_name : List ℕ) : Type 0
   pub within : target A (at A from) name < length A
   pub over : has_name A (at A to) to_name ≡ true → target A (at A to) to_name < length A
   pub few : links A (target A (at A to) to_name) < 2 ^ 64
-
--- a directory can be listed
-pub record CanList (A : List Entry) (d : ℕ) : Type 0 where
-  pub small : d + 1 < 2 ^ 32
-  pub parent : parent A d + 1 < 2 ^ 32
-  pub rows : All (λ r. r.index + 1 < 2 ^ 32) (names_of (entry_at A d))
-  pub few : length (names_of (entry_at A d)) + 3 < 2 ^ 32
 
 -- a call that only reads can be answered
 abbrev pub CanRead : Limits → List Entry → Call → Type 0

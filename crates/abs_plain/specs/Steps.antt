@@ -1,20 +1,13 @@
 -- Parts of the machine as the program takes them.
-use Rattle.std.specs.Prelude.{ℕ, ◌-◌, ◌/◌, List, Bool, ◌&&◌, if◌then◌else◌, length, is_some, unwrap_or, bytes_eq, Option, Some, None}
+use Rattle.std.specs.Prelude.{ℕ, ◌-◌, ◌/◌, List, if◌then◌else◌, bytes_eq, Option, Some, None}
 use Rattle.nfs2_types.specs.declared.Limits.{Limits}
-use Rattle.nfs2_types.specs.declared.Sattr.{Sattr}
 use Rattle.nfs2_types.specs.declared.NfsResult.{NfsResult}
 use Rattle.nfs2_types.specs.declared.NfsResult.TheVariants as Result
 use Rattle.nfs2_types.specs.Call.{Call, null, root, write_cache, get_attr, set_attr, lookup, read_link, read, write, create, make_dir, read_dir, stat_fs}
 use Rattle.nfs2_types.specs.Names.{name_dot, name_dots}
 use Rattle.abs_model.specs.declared.Entry.{Entry}
-use Rattle.abs_model.specs.Objects.{bytes_of}
-use Rattle.abs_model.specs.Array.{entry_at, at, has_name, target, parent, fattr, used}
-use Rattle.abs_model.specs.Machine.{no_room, no_new, node_at, answer, found_or_made}
-
--- CREATE finds no space
-abbrev pub no_file : List Entry → Limits → ℕ → List ℕ → Sattr → Bool
-no_file A limits d name s =
-    if has_name A d name then is_some s.size && no_room A limits (length (bytes_of (entry_at A (target A d name)))) (unwrap_or s.size 0) else no_new A limits (unwrap_or s.size 0)
+use Rattle.abs_model.specs.Array.{at, target, parent, fattr, used}
+use Rattle.abs_model.specs.Machine.{node_at, answer, found_or_made}
 
 -- where LOOKUP leads
 abbrev pub found : List Entry → ℕ → List ℕ → ℕ

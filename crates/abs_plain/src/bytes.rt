@@ -16,7 +16,7 @@ pub fn resized(alloc: Global, size: usize, bytes: &[u8]) -> Result<Vec<u8>, Allo
 }
 
 /// The bytes from a place on, none past the end.
-#[tactic(auto, using(crate::proofs::Ends::ends))]
+#[tactic(auto, using(abs_queries::proofs::Ends::ends))]
 pub fn tail(bytes: &[u8], start: usize) -> &[u8]
     ensures { result.now ≡ drop start bytes.now }
 {

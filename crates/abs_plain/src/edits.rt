@@ -5,8 +5,9 @@ ghost use Rattle.nfs2_types.specs.Call.{call_of};
 ghost use Rattle.abs_model.specs.Machine.{changes, to_be, with_names};
 ghost use Rattle.abs_plain.specs.Ready.{CanChange};
 
-use crate::entries::{attr_of, written_at};
+use crate::attrs::written_at;
 use abs_model::{Change, Entry, NameRow, Names, Object};
+use abs_queries::entries::attr_of;
 use nfs2_types::{Args, Cred, Time};
 use std::alloc::{AllocError, Global};
 

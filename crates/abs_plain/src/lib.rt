@@ -2,20 +2,14 @@
 #![tactic(auto)]
 
 mod array;
+mod attrs;
 mod bytes;
 mod edits;
-mod entries;
-mod listed;
-mod look;
-mod marking;
-mod names;
 mod reads;
-mod refusals;
-mod seen;
+mod rows;
 mod step;
-mod validity;
 mod writes;
 
+pub use abs_queries::is_valid;
 pub use array::AbsArray;
 pub use step::plain_step;
-pub use validity::is_valid;

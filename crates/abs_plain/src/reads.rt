@@ -7,10 +7,10 @@ ghost use Rattle.abs_plain.specs.Ready.{CanRead};
 ghost use Rattle.abs_plain.specs.Steps.{found, read_answer, space};
 
 use crate::bytes::tail;
-use crate::listed::listed;
-use crate::look::{at, bytes_at, parent, target, used};
-use crate::seen::{fattr, node_at};
 use abs_model::Entry;
+use abs_queries::listed::listed;
+use abs_queries::look::{at, bytes_at, parent, target, used};
+use abs_queries::seen::{fattr, node_at};
 use nfs2_types::{Args, Blob, Limits, NfsResult};
 use std::alloc::{AllocError, Global};
 

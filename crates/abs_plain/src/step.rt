@@ -8,8 +8,8 @@ ghost use Rattle.abs_model.specs.Valid.{Valid};
 
 use crate::array::AbsArray;
 use crate::edits::changes;
-use crate::refusals::refusal;
 use crate::{reads, writes};
+use abs_queries::refusals::refusal;
 use nfs2_types::{Args, Cred, Limits, NfsResult, NoMemory, Time};
 use std::alloc::{AllocError, Global};
 

@@ -5,9 +5,9 @@ ghost use Rattle.nfs2_types.specs.Call.{call_of};
 ghost use Rattle.abs_model.specs.Bounds.{HasBounds};
 ghost use Rattle.abs_plain.specs.Steps.{place_of, write_answer};
 
-use crate::look::{at, found_or_made};
-use crate::seen::{fattr, node_at};
 use abs_model::Entry;
+use abs_queries::look::{at, found_or_made};
+use abs_queries::seen::{fattr, node_at};
 use nfs2_types::{Args, NfsResult};
 
 /// The index of which the answer speaks; the root's where it speaks of none.

@@ -8,10 +8,11 @@ ghost use Rattle.abs_model.specs.Machine.{changes, to_be, with_bytes};
 ghost use Rattle.abs_plain.specs.Ready.{IsAt, CanAdd, CanCreate};
 
 use super::makes::adds;
+use crate::attrs::{new_attr, set_attr_of, with_attr, written_at};
 use crate::bytes::{resized, written};
-use crate::entries::{attr_of, bytes_of, new_attr, set_attr_of, with_attr, written_at};
-use crate::look::{at, has_name, target};
 use abs_model::{Attr, Change, Entry, Object};
+use abs_queries::entries::{attr_of, bytes_of};
+use abs_queries::look::{at, has_name, target};
 use nfs2_types::{Blob, Cred, Handle, Sattr, Time};
 use std::alloc::{AllocError, Global};
 

@@ -7,10 +7,11 @@ ghost use Rattle.abs_model.specs.Machine.{changes, adds};
 ghost use Rattle.abs_plain.specs.Ready.{CanAdd};
 
 use super::change_names;
-use crate::entries::{names_of, new_attr};
-use crate::look::{at, free};
-use crate::names::placed;
+use crate::attrs::new_attr;
+use crate::rows::placed;
 use abs_model::{Change, Entry, NameRow, Names, Object};
+use abs_queries::entries::names_of;
+use abs_queries::look::{at, free};
 use nfs2_types::{Blob, Cred, Handle, Sattr, Time};
 use std::alloc::{AllocError, Global};
 

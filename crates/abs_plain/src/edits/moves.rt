@@ -8,10 +8,11 @@ ghost use Rattle.abs_model.specs.Machine.{changes, unlinked, row_to, rows_move};
 ghost use Rattle.abs_plain.specs.Ready.{CanTakeOut, CanLink, CanRename};
 
 use super::change_names;
-use crate::entries::{attr_of, changed_at, names_of, with_attr};
-use crate::look::{at, has_name, links, target};
-use crate::names::{comes, placed, without};
+use crate::attrs::{changed_at, with_attr};
+use crate::rows::{comes, placed, without};
 use abs_model::{Change, Entry, NameRow, Object};
+use abs_queries::entries::{attr_of, names_of};
+use abs_queries::look::{at, has_name, links, target};
 use nfs2_types::{Blob, Cred, Handle, Time};
 use std::alloc::{AllocError, Global};
 
