@@ -1,4 +1,5 @@
 pub mod Frames
+pub mod InStep
 pub mod Kept
 pub mod Made
 pub mod Named
