@@ -1,6 +1,11 @@
+pub mod ArrayFacts
+pub mod Counted
 pub mod Frames
 pub mod InStep
 pub mod Kept
+pub mod LiveRows
 pub mod Made
 pub mod Named
+pub mod RowFacts
+pub mod Sizes
 pub mod Timed

@@ -1,3 +1,4 @@
+pub mod Listed
 pub mod SoftLaws
 pub mod SumLaws
 pub mod TreeLaws
