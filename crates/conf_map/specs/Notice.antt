@@ -3,8 +3,15 @@ use Rattle.std.specs.Prelude.{◌≡◌, ◌≤◌, ℕ, List, [], ◌∷◌, Re
 use Rattle.abs_model.specs.declared.entry.Entry.{Entry}
 use Rattle.server_trait.specs.Tree.{Server}
 use Rattle.nfs2_types.specs.Counts.{Rose}
+use Rattle.server_trait.specs.declared.server.SrvErr.{SrvErr}
+use Rattle.server_trait.specs.declared.server.SrvErr.TheVariants.{Fault}
 use Rattle.server_trait.specs.declared.bench.WrapErr.{WrapErr}
 use Rattle.server_trait.specs.declared.bench.WrapErr.TheVariants.{Down, NoMemory}
+
+-- what a server's failure is to the wrapper
+abbrev pub wrap_of : SrvErr → WrapErr
+wrap_of Fault = Down
+wrap_of e = NoMemory
 
 -- the count by an answer: the same after Ok, and Down only where it rose
 abbrev pub Counted : {T : Type 0} → ℕ → ℕ → Result T WrapErr → Type 0
