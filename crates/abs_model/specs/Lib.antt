@@ -1,4 +1,5 @@
 pub mod Array
+pub mod Bounds
 pub mod Listed
 pub mod Machine
 pub mod Objects

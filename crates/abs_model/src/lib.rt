@@ -2,5 +2,7 @@
 #![tactic(auto)]
 
 mod entry;
+mod laws;
 
 pub use entry::{Attr, Change, Entry, NameRow, Names, Object};
+pub use laws::{as_long, empty_is_valid, stays_valid, told_within, untold_stays};
