@@ -1,5 +1,7 @@
+pub mod Agrees
 pub mod ArrayFacts
 pub mod Counted
+pub mod Fattrs
 pub mod Frames
 pub mod InStep
 pub mod Kept

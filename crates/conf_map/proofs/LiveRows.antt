@@ -29,7 +29,7 @@ live_handle t rows r g (Link a b) k live = (k.handle, k.is_handle)
 live_handle t rows r g (Dir a b) k live = (k.handle, k.is_handle)
 
 -- the node of a live row holds its entry's object
-object_holds : (t : Tree) (rows : List ConfEntry) (r : ConfEntry) (g : ℕ) (o : Object) (h : List ℕ) (n : Node) → IsObject t rows r o → r.handle ≡ Some h → node_at t h ≡ Some n →
+pub object_holds : (t : Tree) (rows : List ConfEntry) (r : ConfEntry) (g : ℕ) (o : Object) (h : List ℕ) (n : Node) → IsObject t rows r o → r.handle ≡ Some h → node_at t h ≡ Some n →
     SameAttr (attr_of (record { generation = g; object = o })) r n × SameContent rows o n.content
 object_holds t rows r g Null h n k is at = absurd (some_none is k)
 object_holds t rows r g (File a b) h n k is at =

@@ -31,12 +31,12 @@ sum_by-ones (r ∷ rows) = let a = sum_by-cons (λ (r : NameRow). 1) r rows in l
 len_names : (rows : List ConfEntry) (names : List NameRow) (m : Names) → is_rising names ≡ true → SameNames rows names m → len m ≡ length names
 len_names rows names m rising same = sym (total-ones m) ∙ names_total rows names m (λ _. 1) (λ _. 1) rising same (λ r h _. refl) ∙ sum_by-ones names
 
-size_names : (c : Content) (m : Names) → names_in c ≡ Some m → size_of c ≡ len m
+pub size_names : (c : Content) (m : Names) → names_in c ≡ Some m → size_of c ≡ len m
 size_names (BytesOf b) m is = absurd (some_none is refl)
 size_names (TextOf b) m is = absurd (some_none is refl)
 size_names (NamesOf k) m is = ap len (some_same refl is)
 
-used_names : (c : Content) (m : Names) → names_in c ≡ Some m → tree.used_by c ≡ 512 * len m
+pub used_names : (c : Content) (m : Names) → names_in c ≡ Some m → tree.used_by c ≡ 512 * len m
 used_names (BytesOf b) m is = absurd (some_none is refl)
 used_names (TextOf b) m is = absurd (some_none is refl)
 used_names (NamesOf k) m is = ap (λ m. 512 * len m) (some_same refl is)

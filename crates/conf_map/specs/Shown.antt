@@ -1,0 +1,27 @@
+-- What a client sees of a node (RFC 1094, 2.3.5), from what its server tells of it and what its row keeps.
+use Rattle.std.specs.Prelude.{ℕ, ◌+◌, ◌*◌, ◌≤◌, ◌<◌}
+use Rattle.nfs2_types.specs.declared.fattr.Kind.TheVariants.{File, Dir, Link}
+use Rattle.nfs2_types.specs.declared.Fattr.{Fattr}
+use Rattle.server_trait.specs.declared.server.NodeAttr.{NodeAttr}
+use Rattle.server_trait.specs.declared.bench.ConfEntry.{ConfEntry}
+use Rattle.abs_model.specs.declared.entry.Attr.{Attr}
+use Rattle.abs_model.specs.Array.{fattr_by}
+
+-- mode and owners are the node's, and the times are the row's
+abbrev pub attr_by : NodeAttr → ConfEntry → Attr
+attr_by a r = record { mode = a.mode; uid = a.uid; gid = a.gid; atime = r.atime; mtime = r.mtime; ctime = r.ctime }
+
+-- the words of fattr by the node's kind: a directory counts itself twice, and 32 bytes a name
+abbrev pub shown : NodeAttr → ConfEntry → ℕ → Fattr
+shown a r i = elim a.kind [
+  | File ↦ fattr_by (attr_by a r) 1 0x8000 a.links a.size i
+  | Dir ↦ fattr_by (attr_by a r) 2 0x4000 (2 + a.links) (512 + 32 * a.size) i
+  | Link ↦ fattr_by (attr_by a r) 5 0xa000 a.links a.size i
+]
+
+-- numbers that leave the words of fattr below 2^32
+pub record AreSmall (a : NodeAttr) (i : ℕ) : Type 0 where
+  pub mode : a.mode < 4096
+  pub size : a.size ≤ 1048576
+  pub links : a.links ≤ 32768
+  pub index : i < 4096
