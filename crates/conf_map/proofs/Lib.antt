@@ -9,5 +9,6 @@ pub mod LiveRows
 pub mod Made
 pub mod Named
 pub mod RowFacts
+pub mod Seen
 pub mod Sizes
 pub mod Timed

@@ -126,3 +126,9 @@ pub record StandValid (server : Option Tree) (table : ConfTable) (A : List Entry
   pub within : AreWithin limits
   pub valid : Valid limits A
   pub stands : Stands server table A
+
+-- they stand for an array that is valid for these limits
+pub record StandsValid (limits : Limits) (server : Option Tree) (table : ConfTable) (A : List Entry) : Type 0 where
+  pub within : AreWithin limits
+  pub valid : Valid limits A
+  pub stands : Stands server table A

@@ -1,10 +1,12 @@
 -- Tables by themselves: the look-ups in one, and when its map of handles goes with its rows.
 use Rattle.std.specs.Prelude.{◌≡◌, ◌↔◌, ℕ, ◌-◌, ◌^◌, List, Bool, ◌&&◌, ◌==◌, nat_lt, if◌then◌else◌, is_none, bytes_eq, false, Option, None, Some, slice_get}
-use Rattle.std.specs.Option.{option_and_then}
+use Rattle.std.specs.Option.{option_and_then, option_map}
 use Rattle.std.specs.Ordering.{nat_cmp}
 use Rattle.std.specs.Cmp.Lexicographic.{slice_cmp}
 use Rattle.std.specs.BTreeMap as ordered
 use Rattle.nfs2_types.specs.declared.handle.Oid.{Oid}
+use Rattle.nfs2_types.specs.Handle.{oid_in}
+use Rattle.conf_map.specs.declared.table.Located.{Located}
 use Rattle.server_trait.specs.declared.bench.ConfEntry.{ConfEntry}
 use Rattle.server_trait.specs.declared.bench.ConfTable.{ConfTable}
 use Rattle.conf_map.specs.Stands.{handle_at}
@@ -12,6 +14,14 @@ use Rattle.conf_map.specs.Stands.{handle_at}
 -- the handle in the row of an object, where the row's generation is the object's
 abbrev pub live_in : List ConfEntry → Oid → Option (List ℕ)
 live_in rows o = option_and_then (λ r. if r.generation == o.generation then r.handle else None) (slice_get rows o.index)
+
+-- the row of a handle that names a live object, and that object's node
+abbrev pub located : List ConfEntry → List ℕ → Option Located
+located rows h = option_and_then (λ o. option_map (λ x. record { index = o.index; handle = x }) (live_in rows o)) (oid_in h)
+
+-- a row with its node's handle
+abbrev pub IsLive : List ConfEntry → Located → Type 0
+IsLive rows at = handle_at rows at.index ≡ Some at.handle
 
 -- the row that the map has for a handle
 abbrev pub index_in : ConfTable → List ℕ → Option ℕ

@@ -2,9 +2,9 @@
 
 ghost use Rattle.std.specs.Prelude.{◌≡◌, ◌<◌, ◌^◌, ◌&&◌, not, if◌then◌else◌, length, position, slice_get, slice_set, IfSome, OnErr, OnOk, Some, None, List, ℕ};
 ghost use Rattle.server_trait.specs.declared.bench.ConfEntry.{ConfEntry};
-ghost use Rattle.conf_map.specs.Tables.{live_in, index_in, is_free_row, null_row, has_handle, IsInStep, IsUnshared, IsSameTable};
+ghost use Rattle.conf_map.specs.Tables.{live_in, located, index_in, is_free_row, null_row, has_handle, IsInStep, IsUnshared, IsSameTable};
 
-use nfs2_types::{Handle, NoMemory, Oid};
+use nfs2_types::{Handle, NoMemory, Oid, oid_of};
 use server_trait::{ConfEntry, ConfTable};
 
 /// The handle of an object's node, or `None` where its index is not below the number of rows, the row is null, or the
@@ -18,6 +18,25 @@ pub fn live(table: &ConfTable, o: Oid) -> Option<Handle>
     } else {
         None
     }
+}
+
+/// A row, and the handle of its node at the server.
+#[derive(Clone, Copy, Debug)]
+pub struct Located {
+    pub index: u32,
+    pub handle: Handle,
+}
+
+/// The object that a client's handle names, or `None` where it names none. It takes no memory.
+pub fn locate(table: &ConfTable, h: &Handle) -> Option<Located>
+    ensures { result ≡ located table.now.rows.items h.now }
+{
+    let o = oid_of(h)?;
+    let handle = live(table, o)?;
+    Some(Located {
+        index: o.index,
+        handle,
+    })
 }
 
 /// The row of a handle, or `None` where the map has no such handle. It takes no memory.

@@ -1,0 +1,85 @@
+-- What a table and a server tell of the array that they stand for: objects by handle, names, and free indexes.
+use Rattle.std.proofs.Common.{◌≡◌, ◌≢◌, ◌⊎◌, inl, inr, ℕ, zero, suc, ◌+◌, ◌-◌, ◌^◌, ◌<◌, arith, true, false, cond, Bool, List, [], ◌∷◌, length, Option, Some, None, IsSome, IsSomeAnd, slice_get, refl, sym, ap, ◌∙◌, subst}
+use Rattle.std.specs.Prelude.{◌&&◌, ◌||◌, not, ◌==◌, nat_lt, if◌then◌else◌, is_some, is_none, bytes_eq, position}
+use Rattle.std.specs.List.{prefix_len, position_or_len}
+use Rattle.std.specs.Option.{option_and_then, option_map}
+use Rattle.std.specs.FinMap.{get}
+use Rattle.std.proofs.lemmas.List.Quantifiers.{position-Some}
+use Rattle.nfs2_types.specs.declared.handle.Oid.{Oid}
+use Rattle.nfs2_types.specs.Handle.{oid_in}
+use Rattle.server_trait.specs.Tree.{Tree, Node, Names, node_at, names_at, names_in, target}
+use Rattle.server_trait.proofs.TreeLaws.{some_and, is_some_and, some_none, some_same, and_then_some, slice_get-along, names_at-node, target-node}
+use Rattle.server_trait.specs.declared.bench.ConfEntry.{ConfEntry}
+use Rattle.server_trait.specs.declared.bench.ConfTable.{ConfTable}
+use Rattle.abs_model.specs.declared.entry.NameRow.{NameRow}
+use Rattle.abs_model.specs.declared.entry.Object.{Object}
+use Rattle.abs_model.specs.declared.entry.Entry.{Entry}
+use Rattle.abs_model.specs.Objects.{is_null, is_dir, names_of, row_of}
+use Rattle.abs_model.specs.Array.{entry_at, null_entry, is_named_by, live, at, can_take, free, has_name}
+use Rattle.abs_model.specs.Array as array
+use Rattle.conf_map.specs.declared.table.Located.{Located}
+use Rattle.conf_map.specs.Stands.{handle_at, Leads, Stands}
+use Rattle.conf_map.specs.Moves.{IsAt}
+use Rattle.conf_map.specs.Tables.{live_in, located, IsLive, is_free_row}
+use Rattle.conf_map.proofs.Frames.{entry_at-some, handle_of_row}
+use Rattle.conf_map.proofs.ArrayFacts.{eq_of}
+use Rattle.conf_map.proofs.LiveRows.{live_object, live_handle, at_handle}
+
+-- LISTS
+
+-- lists of one length end together
+pub slice_get-along_none : {X Y : Type 0} (xs : List X) (ys : List Y) (i : ℕ) → length xs ≡ length ys → slice_get xs i ≡ None → slice_get ys i ≡ None
+slice_get-along_none xs [] i n h = refl
+slice_get-along_none [] (y ∷ ys) i n h = absurd (omega arith)
+slice_get-along_none (z ∷ xs) (y ∷ ys) zero n h = absurd (let bad : Some z ≡ None = h in cc)
+slice_get-along_none (z ∷ xs) (y ∷ ys) (suc i) n h = slice_get-along_none xs ys i (omega arith) h
+
+prefix_len-along : {X Y : Type 0} (p : X → Bool) (q : Y → Bool) (xs : List X) (ys : List Y) → length xs ≡ length ys →
+    ((i : ℕ) (x : X) (y : Y) → slice_get xs i ≡ Some x → slice_get ys i ≡ Some y → p x ≡ q y) → prefix_len p xs ≡ prefix_len q ys
+prefix_len-along p q [] [] n same = refl
+prefix_len-along p q [] (y ∷ ys) n same = absurd (omega arith)
+prefix_len-along p q (x ∷ xs) [] n same = absurd (omega arith)
+prefix_len-along p q (x ∷ xs) (y ∷ ys) n same =
+    ap (λ b. cond b (1 + prefix_len p xs) 0) (same 0 x y refl refl)
+    ∙ ap (λ n. cond (q y) (1 + n) 0) (prefix_len-along p q xs ys (omega arith) (λ i. same (suc i)))
+
+-- tests that agree along two lists pass first at one place
+position-along : {X Y : Type 0} (p : X → Bool) (q : Y → Bool) (xs : List X) (ys : List Y) → length xs ≡ length ys →
+    ((i : ℕ) (x : X) (y : Y) → slice_get xs i ≡ Some x → slice_get ys i ≡ Some y → p x ≡ q y) → position p xs ≡ position q ys
+position-along p q xs ys n same =
+    let k = prefix_len-along (λ x. not (p x)) (λ y. not (q y)) xs ys n (λ i x y at_x at_y. ap not (same i x y at_x at_y)) in
+    (ap (λ k. cond (nat_lt k (length xs)) (Some k) None) k) ∙ ap (λ n. cond (nat_lt (position_or_len q ys) n) (Some (position_or_len q ys)) None) n
+
+module _ (s : Option Tree) (table : ConfTable) (A : List Entry) (st : Stands s table A) where
+  -- a row is null where its entry is
+  null_agrees : (i : ℕ) (r : ConfEntry) (e : Entry) → slice_get table.rows.items i ≡ Some r → slice_get A i ≡ Some e → is_none r.handle ≡ is_null e
+  null_agrees i r e at_r at_e = by_handle r.handle refl
+    where
+      k = (st.each i r e at_r at_e).object
+
+      by_handle : (o : Option (List ℕ)) → r.handle ≡ o → is_none o ≡ is_null e
+      by_handle (Some h) is = sym (live_object st.tree table.rows.items r e.generation e.object h k is)
+      by_handle None is = elim (is_null e) as (λ b. is_null e ≡ b → true ≡ b) [
+        | true ↦ λ _. refl
+        | false ↦ λ l. let h = live_handle st.tree table.rows.items r e.generation e.object k l in absurd (some_none h.1 is)
+      ] refl
+
+  -- FREE INDEXES
+
+  pub free_agrees : position is_free_row table.rows.items ≡ free A
+  free_agrees = position-along is_free_row can_take table.rows.items A st.size
+      (λ i r e at_r at_e. ap (λ b. b && nat_lt r.generation (2 ^ 32 - 1)) (null_agrees i r e at_r at_e) ∙ ap (λ g. is_null e && nat_lt g (2 ^ 32 - 1)) (st.each i r e at_r at_e).generation)
+
+  -- HANDLES
+
+  -- what is null has no generation that names it
+  unnamed : (g : ℕ) (e : Entry) → is_null e ≡ true → is_named_by g e ≡ false
+  unnamed g e is = ap (λ b. not b && e.generation == g) is
+
+  named_agrees : (o : Oid) → (if is_named_by o.generation (entry_at A o.index) then Some o.index else None) ≡ option_map (λ (x : List ℕ). o.index) (live_in table.rows.items o)
+  named_agrees o = by_row (slice_get table.rows.items o.index) refl
+    where
+      by_row : (r : Option ConfEntry) → slice_get table.rows.items o.index ≡ r →
+          (if is_named_by o.generation (entry_at A o.index) then Some o.index else None) ≡ option_map (λ (x : List ℕ). o.index) (option_and_then (λ (r : ConfEntry). if r.generation == o.generation then r.handle else None) r)
+      by_row None none = ?
+      by_row (Some r) at_r = ?
