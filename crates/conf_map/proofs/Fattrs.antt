@@ -78,6 +78,16 @@ words a b ftype bits l l' s s' i p q e = λ j. fattr_by (p j) ftype bits (q j) (
 by_kind : (a : NodeAttr) (r : ConfEntry) (i : ℕ) (k : Kind) → a.kind ≡ k → shown a r i ≡ shown (record a { kind = k }) r i
 by_kind a r i k e = ap (λ k. shown (record a { kind = k }) r i) e
 
+kind_names : (c : Content) (m : Names) → names_in c ≡ Some m → kind_of c ≡ Kind.Dir
+kind_names (BytesOf b) m is = absurd (some_none is refl)
+kind_names (TextOf b) m is = absurd (some_none is refl)
+kind_names (NamesOf k) m is = refl
+
+pub links_names : (t : Tree) (h : List ℕ) (c : Content) (m : Names) → names_in c ≡ Some m → links_of t h c ≡ tree.subdirs t m
+links_names t h (BytesOf b) m is = absurd (some_none is refl)
+links_names t h (TextOf b) m is = absurd (some_none is refl)
+links_names t h (NamesOf k) m is = ap (tree.subdirs t) (some_same refl is)
+
 -- the words of an object
 abbrev fattr_of : List Entry → ℕ → Object → Fattr
 fattr_of A i o = elim o [
@@ -112,16 +122,6 @@ module _ (limits : Limits) (s : Option Tree) (table : ConfTable) (A : List Entry
       ∙ words _ _ _ _ _ _ _ _ i (same_words a r n attr is.mode is.uid is.gid k)
       (ap (λ x. 2 + x) (is.links ∙ links_names st.tree h n.content m.0 m.1 ∙ subdirs_agrees limits s table A st v i h r n e at m.0 m.1))
       (ap (λ x. 512 + 32 * x) (is.size ∙ size_names n.content m.0 m.1 ∙ names_agree limits s table A st v i h r n e at m.0 m.1))
-    where
-      kind_names : (c : Content) (m : Names) → names_in c ≡ Some m → kind_of c ≡ Kind.Dir
-      kind_names (BytesOf b) m is = absurd (some_none is refl)
-      kind_names (TextOf b) m is = absurd (some_none is refl)
-      kind_names (NamesOf k) m is = refl
-
-      links_names : (t : Tree) (h : List ℕ) (c : Content) (m : Names) → names_in c ≡ Some m → links_of t h c ≡ tree.subdirs t m
-      links_names t h (BytesOf b) m is = absurd (some_none is refl)
-      links_names t h (TextOf b) m is = absurd (some_none is refl)
-      links_names t h (NamesOf k) m is = ap (tree.subdirs t) (some_same refl is)
 
   -- What is shown of a live row's node is what the array says.
   pub shown_agrees : (e : Entry) → IsAt st.tree table A i h r n e → shown a r i ≡ fattr A i

@@ -1,5 +1,6 @@
 pub mod Agrees
 pub mod ArrayFacts
+pub mod Bounds
 pub mod Counted
 pub mod Fattrs
 pub mod Frames
