@@ -99,8 +99,7 @@ pub told_attr : (server : Option Tree) (table : ConfTable) (A : List Entry) → 
 told_attr server table A k i r h a is_row is_handle told =
     let at = at_row server table A k.stands i r h is_row is_handle in
     let n = some_and (node_at k.stands.tree h) (IsAttr k.stands.tree h a) (told k.stands.tree k.stands.has_tree) in
-    let is = subst (IsAttr k.stands.tree h a) (some_same n.1 at.2.is_node) n.2 in
-    (
+    let is = subst (IsAttr k.stands.tree h a) (some_same n.1 at.2.is_node) n.2 in (
       shown_agrees k.limits server table A k.stands k.valid i h r at.0 a is at.1 at.2,
       attr_small k.limits server table A k.stands k.valid k.within i h r at.0 a at.1 is at.2,
     )

@@ -11,5 +11,6 @@ pub mod Made
 pub mod Named
 pub mod RowFacts
 pub mod Seen
+pub mod Shows
 pub mod Sizes
 pub mod Timed
