@@ -1,5 +1,5 @@
 -- The numbers that a server tells of a live row's node are small, so that the words of fattr fit 32 bits.
-use Rattle.std.proofs.Common.{◌≡◌, ◌≢◌, ℕ, zero, suc, ◌+◌, ◌*◌, ◌≤◌, ◌<◌, arith, true, false, List, [], ◌∷◌, length, slice_get, Option, Some, None, IsSomeAnd, refl, sym, ap, ◌∙◌, subst}
+use Rattle.std.proofs.Common.{◌≡◌, ℕ, ◌+◌, ◌≤◌, arith, false, List, length, slice_get, Option, Some, IsSomeAnd, refl, ap, ◌∙◌, subst}
 use Rattle.std.proofs.lemmas.List.Sums.{count_by-le-length}
 use Rattle.std.proofs.lemmas.Option.{slice_get_within}
 use Rattle.nfs2_types.specs.declared.Limits.{Limits}
@@ -15,8 +15,8 @@ use Rattle.abs_model.specs.declared.entry.Object.{Object}
 use Rattle.abs_model.specs.declared.entry.Object.TheVariants.{Null, File, Dir, Link}
 use Rattle.abs_model.specs.declared.entry.Entry.{Entry}
 use Rattle.abs_model.specs.Objects.{is_dir, names_of, bytes_of, used_by}
-use Rattle.abs_model.specs.Array.{entry_at, fattr, links, used, subdirs}
-use Rattle.abs_model.specs.Valid.{most_bytes, Valid}
+use Rattle.abs_model.specs.Array.{entry_at, fattr}
+use Rattle.abs_model.specs.Valid.{Valid}
 use Rattle.conf_map.specs.Shown.{shown, AreSmall}
 use Rattle.conf_map.specs.Stands.{SameNames, SameContent, AreWithin, Stands, StandValid}
 use Rattle.conf_map.specs.Moves.{IsAt}

@@ -1,5 +1,6 @@
 pub mod Agrees
 pub mod ArrayFacts
+pub mod Below
 pub mod Bounds
 pub mod Counted
 pub mod Fattrs
@@ -13,4 +14,5 @@ pub mod RowFacts
 pub mod Seen
 pub mod Shows
 pub mod Sizes
+pub mod Targets
 pub mod Timed
