@@ -1,20 +1,20 @@
 -- What a server tells in numbers is what the array says: the bytes that are used, its nodes, and the names of an object.
-use Rattle.std.proofs.Common.{◌≡◌, ◌≢◌, inl, inr, ℕ, zero, suc, ◌+◌, ◌*◌, ◌≤◌, ◌<◌, arith, true, false, List, [], ◌∷◌, length, slice_get, Option, Some, None, refl, sym, ap, ◌∙◌, subst, cond}
-use Rattle.std.specs.Prelude.{not, sum_by, count_by, ◌==◌, nat_lt, ◌&&◌, bytes_eq}
-use Rattle.std.specs.List.{position}
+use Rattle.std.proofs.Common.{◌≡◌, ◌≢◌, inl, inr, ℕ, zero, suc, ◌+◌, ◌≤◌, ◌<◌, arith, true, false, List, [], ◌∷◌, length, Option, Some, refl, sym, ap, ◌∙◌, cond}
+use Rattle.std.specs.Prelude.{not, sum_by, count_by, ◌==◌, bytes_eq}
 use Rattle.std.specs.Ordering.{nat_cmp}
 use Rattle.std.specs.Cmp.Lexicographic.{slice_cmp, nat_list_cmp_total}
-use Rattle.std.specs.FinMap.{get, insert, empty, len, get-empty}
+use Rattle.std.specs.FinMap.{insert, empty, len, get-empty}
 use Rattle.std.proofs.lemmas.List.Sums.{sum_by-cons, count_by-le-length}
 use Rattle.std.proofs.lemmas.List.Quantifiers.{position-Some}
 use Rattle.std.proofs.lemmas.Slice.Eq.{bytes_eq-Decides}
 use Rattle.nfs2_types.specs.declared.Limits.{Limits}
 use Rattle.server_trait.specs.Tree.{Tree, Node, Names, Content, BytesOf, TextOf, NamesOf, node_at, names_in, names_to, one_if}
 use Rattle.server_trait.specs.Tree as tree
+use Rattle.server_trait.specs.Step.{NoRoom}
 use Rattle.server_trait.specs.Sums.{total}
 use Rattle.server_trait.proofs.SumLaws.{total-none, total-ones, total-insert_new}
 use Rattle.server_trait.proofs.TreeLaws.{some_and, some_none, some_same, get-insert_other, one_or_not, names_at-node}
-use Rattle.server_trait.specs.declared.bench.ConfEntry.{ConfEntry}
+use Rattle.server_trait.specs.declared.server.ServerLimits.{ServerLimits}
 use Rattle.server_trait.specs.declared.bench.ConfTable.{ConfTable}
 use Rattle.abs_model.specs.declared.entry.NameRow.{NameRow}
 use Rattle.abs_model.specs.declared.entry.Object.{Object}
@@ -26,7 +26,7 @@ use Rattle.abs_model.specs.Array.{entry_at, null_entry, can_take, free}
 use Rattle.abs_model.specs.Array as array
 use Rattle.abs_model.specs.Valid.{is_rising, Valid}
 use Rattle.conf_map.specs.Stands.{handle_at, root_names, export_name, staging_name, SameNames, SameContent, Stands}
-use Rattle.conf_map.proofs.ArrayFacts.{eq_is, eq_not, fits_at, not_of}
+use Rattle.conf_map.proofs.ArrayFacts.{eq_is, eq_not, fits_at}
 use Rattle.conf_map.proofs.Counted.{stands_total, names_total}
 use Rattle.conf_map.proofs.Kept.{one_row}
 use Rattle.conf_map.proofs.LiveRows.{live_object, object_holds}
@@ -112,6 +112,11 @@ module _ (limits : Limits) (s : Option Tree) (table : ConfTable) (A : List Entry
   -- so where an index is free
   pub nodes_free : (i : ℕ) → free A ≡ Some i → len st.tree.nodes ≤ 1 + length A
   nodes_free i is = let p = position-Some can_take A i null_entry is in nodes_fewer i p.0 (and_left _ _ p.1)
+
+  -- A server of two nodes more than entries has room for a node where an index is free, as long as its bytes suffice.
+  pub room_to_make : (most : ServerLimits) (bytes i : ℕ) → free A ≡ Some i → 2 + length A ≤ most.nodes → 1024 + (array.used A + bytes) ≤ most.bytes → NoRoom most st.tree 1 0 bytes → ⊥
+  room_to_make most bytes i is nodes space (inl over) = let few = nodes_free i is in absurd (omega (arith, few))
+  room_to_make most bytes i is nodes space (inr over) = let same = used_agrees in absurd (omega (arith, same))
 
 -- NAMES OF ONE OBJECT
 

@@ -1,6 +1,6 @@
 -- What a valid array says of each entry, and how its names count.
-use Rattle.std.proofs.Common.{◌≡◌, ◌≢◌, ◌⊎◌, inl, inr, ℕ, zero, suc, ◌+◌, ◌*◌, ◌≤◌, ◌<◌, arith, true, false, Bool, List, [], ◌∷◌, length, slice_get, Option, Some, None, refl, sym, ap, ◌∙◌, subst, cond}
-use Rattle.std.specs.Prelude.{nat_lt, nat_le, ◌&&◌, ◌||◌, not, ◌==◌, sum_by, count_by, unwrap_or, if◌then◌else◌}
+use Rattle.std.proofs.Common.{◌≡◌, ◌≢◌, inl, inr, ℕ, zero, suc, ◌+◌, ◌*◌, ◌≤◌, ◌<◌, arith, true, false, Bool, List, [], ◌∷◌, length, slice_get, Some, None, refl, sym, ap, ◌∙◌, subst, cond}
+use Rattle.std.specs.Prelude.{nat_lt, nat_le, ◌||◌, not, ◌==◌, sum_by, count_by, unwrap_or, if◌then◌else◌}
 use Rattle.std.specs.List.{list_all, list_any, position, position_or_len}
 use Rattle.std.proofs.lemmas.Bool.Decides.{nat_tests}
 use Rattle.std.proofs.lemmas.List.Sums.{sum_by-cons, count_by-le-length, fails_before_first, passes_at_first}
@@ -9,6 +9,8 @@ use Rattle.nfs2_types.specs.declared.Limits.{Limits}
 use Rattle.nfs2_types.specs.Names.{is_name}
 use Rattle.server_trait.proofs.TreeLaws.{some_none, some_same, one_or_not}
 use Rattle.abs_model.specs.declared.entry.NameRow.{NameRow}
+use Rattle.abs_model.specs.declared.entry.Object.{Object}
+use Rattle.abs_model.specs.declared.entry.Object.TheVariants.{Null, File, Dir, Link}
 use Rattle.abs_model.specs.declared.entry.Entry.{Entry}
 use Rattle.abs_model.specs.Objects.{is_null, is_dir, names_of, bytes_of, attr_of, used_by, row_of}
 use Rattle.abs_model.specs.Array.{entry_at, null_entry, has_row_to, links, used, parent, is_named_by}
@@ -19,21 +21,27 @@ use Rattle.conf_map.proofs.RowFacts.{and_left, and_right, all_at, found_at}
 
 -- TESTS
 
+-- what the test `<` says
 pub lt_of : (a b : ℕ) → nat_lt a b ≡ true → a < b
 lt_of a b is = grind (arith, nat_tests)
 
+-- what the test `≤` says
 pub le_of : (a b : ℕ) → nat_le a b ≡ true → a ≤ b
 le_of a b is = grind (arith, nat_tests)
 
+-- what the test `==` says
 pub eq_of : (a b : ℕ) → (a == b) ≡ true → a ≡ b
 eq_of a b is = grind (arith, nat_tests)
 
+-- equal numbers pass it
 pub eq_is : (a b : ℕ) → a ≡ b → (a == b) ≡ true
 eq_is a b e = grind (arith, nat_tests)
 
+-- and others do not
 pub eq_not : (a b : ℕ) → a ≢ b → (a == b) ≡ false
 eq_not a b ne = grind (arith, nat_tests)
 
+-- what does not hold is false
 pub not_of : (b : Bool) → not b ≡ true → b ≡ false
 not_of true is = absurd (let bad : false ≡ true = is in cc)
 not_of false is = refl
@@ -61,6 +69,16 @@ fits e is =
       bytes = le_of _ _ (and_right _ _ is);
     }
 
+-- what has names is a directory
+pub dir_of_row : (e : Entry) (name : List ℕ) (r : NameRow) → row_of name (names_of e) ≡ Some r → is_dir e ≡ true
+dir_of_row e name r = by_object e.generation e.object
+  where
+    by_object : (g : ℕ) (o : Object) → row_of name (names_of (record { generation = g; object = o })) ≡ Some r → is_dir (record { generation = g; object = o }) ≡ true
+    by_object g Null is = absurd (some_none is refl)
+    by_object g (File a b) is = absurd (some_none is refl)
+    by_object g (Link a b) is = absurd (some_none is refl)
+    by_object g (Dir a names) is = refl
+
 -- where a name of a valid array leads: to a live entry of its generation, and not to the root
 pub record IsLed (A : List Entry) (r : NameRow) : Type 0 where
   pub not_root : r.index ≢ 0
@@ -82,6 +100,7 @@ live_within [] i live = absurd (let bad : true ≡ false = live in cc)
 live_within (e ∷ A) zero live = omega arith
 live_within (e ∷ A) (suc i) live = let below = live_within A i live in omega arith
 
+-- within the array there is an entry
 pub within_at : (A : List Entry) (i : ℕ) → i < length A → slice_get A i ≡ Some (entry_at A i)
 within_at A i below = slice_get-get_or A i null_entry below
 

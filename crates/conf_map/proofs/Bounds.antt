@@ -1,5 +1,5 @@
 -- The numbers that a server tells of a live row's node are small, so that the words of fattr fit 32 bits.
-use Rattle.std.proofs.Common.{◌≡◌, ◌≢◌, ℕ, zero, suc, ◌+◌, ◌*◌, ◌≤◌, ◌<◌, arith, true, false, List, [], ◌∷◌, length, slice_get, Option, Some, None, IsSomeAnd, refl, sym, ap, ◌∙◌, subst}
+use Rattle.std.proofs.Common.{◌≡◌, ℕ, ◌+◌, ◌≤◌, arith, false, List, length, slice_get, Option, Some, IsSomeAnd, refl, ap, ◌∙◌, subst}
 use Rattle.std.proofs.lemmas.List.Sums.{count_by-le-length}
 use Rattle.std.proofs.lemmas.Option.{slice_get_within}
 use Rattle.nfs2_types.specs.declared.Limits.{Limits}
@@ -15,8 +15,8 @@ use Rattle.abs_model.specs.declared.entry.Object.{Object}
 use Rattle.abs_model.specs.declared.entry.Object.TheVariants.{Null, File, Dir, Link}
 use Rattle.abs_model.specs.declared.entry.Entry.{Entry}
 use Rattle.abs_model.specs.Objects.{is_dir, names_of, bytes_of, used_by}
-use Rattle.abs_model.specs.Array.{entry_at, fattr, links, used, subdirs}
-use Rattle.abs_model.specs.Valid.{most_bytes, Valid}
+use Rattle.abs_model.specs.Array.{entry_at, fattr}
+use Rattle.abs_model.specs.Valid.{Valid}
 use Rattle.conf_map.specs.Shown.{shown, AreSmall}
 use Rattle.conf_map.specs.Stands.{SameNames, SameContent, AreWithin, Stands, StandValid}
 use Rattle.conf_map.specs.Moves.{IsAt}
@@ -99,8 +99,7 @@ pub told_attr : (server : Option Tree) (table : ConfTable) (A : List Entry) → 
 told_attr server table A k i r h a is_row is_handle told =
     let at = at_row server table A k.stands i r h is_row is_handle in
     let n = some_and (node_at k.stands.tree h) (IsAttr k.stands.tree h a) (told k.stands.tree k.stands.has_tree) in
-    let is = subst (IsAttr k.stands.tree h a) (some_same n.1 at.2.is_node) n.2 in
-    (
+    let is = subst (IsAttr k.stands.tree h a) (some_same n.1 at.2.is_node) n.2 in (
       shown_agrees k.limits server table A k.stands k.valid i h r at.0 a is at.1 at.2,
       attr_small k.limits server table A k.stands k.valid k.within i h r at.0 a at.1 is at.2,
     )

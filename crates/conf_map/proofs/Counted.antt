@@ -1,28 +1,22 @@
 -- Sums over the nodes of a tree are sums over the entries of the array that it stands for.
-use Rattle.std.proofs.Common.{◌≡◌, ◌≢◌, ◌⊎◌, inl, inr, ℕ, zero, suc, ◌+◌, arith, true, false, Bool, List, [], ◌∷◌, length, slice_get, Option, Some, None, IsSomeAnd, refl, sym, ap, ◌∙◌, subst, cond}
-use Rattle.std.specs.Prelude.{sum_by, ◌&&◌, bytes_eq}
-use Rattle.std.specs.List.{list_all}
-use Rattle.std.specs.Ordering.{nat_cmp, is_lt}
-use Rattle.std.specs.Cmp.Lexicographic.{slice_cmp, nat_list_cmp_total}
-use Rattle.std.specs.Cmp.{tied_itself}
+use Rattle.std.proofs.Common.{◌≡◌, ◌≢◌, ◌⊎◌, inl, inr, ℕ, ◌+◌, arith, true, List, slice_get, Option, Some, None, refl, sym, ap, ◌∙◌, subst}
+use Rattle.std.specs.Prelude.{sum_by}
 use Rattle.std.specs.FinMap.{get, remove}
-use Rattle.std.proofs.lemmas.Slice.Eq.{bytes_eq-Decides}
 use Rattle.server_trait.specs.Tree.{Tree, Node, Names, ByBytes, node_at}
 use Rattle.server_trait.specs.Sums.{total}
 use Rattle.server_trait.proofs.Listed.{IsListed, total-listed}
-use Rattle.server_trait.proofs.TreeLaws.{some_and, is_some_and, some_none, some_same, and_then_some, get-remove_same, get-remove_other, total-remove, same-keys, same-key_refl, bytes_or_not}
+use Rattle.server_trait.proofs.TreeLaws.{is_some_and, some_none, some_same, and_then_some, get-remove_same, get-remove_other, total-remove}
 use Rattle.server_trait.specs.declared.bench.ConfEntry.{ConfEntry}
 use Rattle.server_trait.specs.declared.bench.ConfTable.{ConfTable}
 use Rattle.abs_model.specs.declared.entry.NameRow.{NameRow}
 use Rattle.abs_model.specs.declared.entry.Object.{Object}
 use Rattle.abs_model.specs.declared.entry.Object.TheVariants.{Null, File, Dir, Link}
 use Rattle.abs_model.specs.declared.entry.Entry.{Entry}
-use Rattle.abs_model.specs.Objects.{row_of, name_lt}
+use Rattle.abs_model.specs.Objects.{row_of}
 use Rattle.abs_model.specs.Valid.{is_rising}
 use Rattle.conf_map.specs.Stands.{handle_at, Leads, SameNames, IsObject, Stands}
 use Rattle.conf_map.proofs.Frames.{handle_of_row, handle_node}
 use Rattle.conf_map.proofs.Kept.{one_row}
-use Rattle.conf_map.proofs.Made.{root_node, staging_node}
 use Rattle.conf_map.proofs.RowFacts.{row_of-at, apart_in, found_at}
 
 null_of : (t : Tree) (rows : List ConfEntry) (r : ConfEntry) (o : Object) → IsObject t rows r o → r.handle ≡ None → o ≡ Null

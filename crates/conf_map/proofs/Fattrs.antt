@@ -1,8 +1,5 @@
 -- What a client sees of a live row's node is what the array says: the call GETATTR (RFC 1094, 2.2.2).
-use Rattle.std.proofs.Common.{◌≡◌, ◌≢◌, inl, inr, ℕ, zero, suc, ◌+◌, ◌*◌, ◌≤◌, ◌<◌, arith, true, false, Bool, List, [], ◌∷◌, length, slice_get, Option, Some, None, IsSomeAnd, refl, sym, ap, ◌∙◌, subst, cond}
-use Rattle.std.specs.Prelude.{count_by}
-use Rattle.std.specs.FinMap.{len}
-use Rattle.std.proofs.lemmas.List.Sums.{count_by-le-length}
+use Rattle.std.proofs.Common.{◌≡◌, ℕ, ◌+◌, ◌*◌, true, false, Bool, List, length, Option, Some, None, refl, sym, ap, ◌∙◌, cond}
 use Rattle.nfs2_types.specs.declared.fattr.Kind.{Kind}
 use Rattle.nfs2_types.specs.declared.Fattr.{Fattr}
 use Rattle.nfs2_types.specs.declared.Limits.{Limits}
@@ -14,7 +11,6 @@ use Rattle.server_trait.specs.declared.server.NodeAttr.{NodeAttr}
 use Rattle.server_trait.specs.declared.bench.ConfEntry.{ConfEntry}
 use Rattle.server_trait.specs.declared.bench.ConfTable.{ConfTable}
 use Rattle.abs_model.specs.declared.entry.Attr.{Attr}
-use Rattle.abs_model.specs.declared.entry.NameRow.{NameRow}
 use Rattle.abs_model.specs.declared.entry.Object.{Object}
 use Rattle.abs_model.specs.declared.entry.Object.TheVariants.{Null, File, Dir, Link}
 use Rattle.abs_model.specs.declared.entry.Entry.{Entry}
@@ -22,14 +18,14 @@ use Rattle.abs_model.specs.Objects.{is_dir, names_of, attr_of, zero_attr}
 use Rattle.abs_model.specs.Array.{entry_at, fattr, fattr_by, parent}
 use Rattle.abs_model.specs.Array as array
 use Rattle.abs_model.specs.Valid.{Valid}
-use Rattle.conf_map.specs.Shown.{attr_by, shown, AreSmall}
-use Rattle.conf_map.specs.Stands.{handle_at, SameNames, SameContent, SameAttr, AreWithin, Stands}
+use Rattle.conf_map.specs.Shown.{attr_by, shown}
+use Rattle.conf_map.specs.Stands.{handle_at, SameNames, SameContent, SameAttr, Stands}
 use Rattle.conf_map.specs.Moves.{IsAt}
 use Rattle.conf_map.proofs.Frames.{entry_at-some}
 use Rattle.conf_map.proofs.ArrayFacts.{fits_at, parent_is}
 use Rattle.conf_map.proofs.Counted.{names_total}
-use Rattle.conf_map.proofs.LiveRows.{at_row, at_handle, same_attr, same_content, has_handle}
-use Rattle.conf_map.proofs.Sizes.{size_agrees, size_names, names_agree, same_names}
+use Rattle.conf_map.proofs.LiveRows.{at_handle, same_attr, same_content, has_handle}
+use Rattle.conf_map.proofs.Sizes.{size_names, names_agree, same_names}
 use Rattle.conf_map.proofs.Agrees.{links_agrees, not_root}
 
 -- a node has names where its entry is a directory
@@ -83,6 +79,7 @@ kind_names (BytesOf b) m is = absurd (some_none is refl)
 kind_names (TextOf b) m is = absurd (some_none is refl)
 kind_names (NamesOf k) m is = refl
 
+-- the links of what has names are its subdirectories
 pub links_names : (t : Tree) (h : List ℕ) (c : Content) (m : Names) → names_in c ≡ Some m → links_of t h c ≡ tree.subdirs t m
 links_names t h (BytesOf b) m is = absurd (some_none is refl)
 links_names t h (TextOf b) m is = absurd (some_none is refl)

@@ -1,5 +1,5 @@
 -- A live row, its node and its entry: where there is one there are the others, and they hold the same.
-use Rattle.std.proofs.Common.{◌≡◌, ℕ, true, false, List, length, slice_get, Option, Some, None, refl, sym, ap, ◌∙◌, subst}
+use Rattle.std.proofs.Common.{◌≡◌, ℕ, true, false, List, slice_get, Option, Some, refl, sym, ap, ◌∙◌, subst}
 use Rattle.server_trait.specs.Tree.{Tree, Node, node_at}
 use Rattle.server_trait.proofs.TreeLaws.{some_none, some_same, and_then_some, slice_get-along}
 use Rattle.server_trait.specs.declared.bench.ConfEntry.{ConfEntry}
@@ -73,9 +73,10 @@ module _ (s : Option Tree) (table : ConfTable) (A : List Entry) (st : Stands s t
     pub has_handle : handle_at table.rows.items i ≡ Some h
     has_handle = handle_of_row table.rows.items i r at.is_row ∙ at.is_handle
 
-    -- row and node have the entry's attributes, and the node its content
+    -- row and node have the entry's attributes
     pub same_attr : SameAttr (attr_of e) r n
     same_attr = (object_holds st.tree table.rows.items r e.generation e.object h n (st.each i r e at.is_row at.is_entry).object at.is_handle at.is_node).0
 
+    -- and the node has its content
     pub same_content : SameContent table.rows.items e.object n.content
     same_content = (object_holds st.tree table.rows.items r e.generation e.object h n (st.each i r e at.is_row at.is_entry).object at.is_handle at.is_node).1

@@ -1,5 +1,5 @@
 -- The size of a node is that of its entry: bytes, or names.
-use Rattle.std.proofs.Common.{◌≡◌, ℕ, ◌+◌, ◌*◌, arith, true, false, List, [], ◌∷◌, length, Option, Some, None, refl, sym, ap, ◌∙◌, subst}
+use Rattle.std.proofs.Common.{◌≡◌, ℕ, ◌+◌, ◌*◌, arith, true, false, List, [], ◌∷◌, length, Option, Some, refl, sym, ap, ◌∙◌, subst}
 use Rattle.std.specs.Prelude.{sum_by}
 use Rattle.std.specs.FinMap.{len}
 use Rattle.std.proofs.lemmas.List.Sums.{sum_by-cons}
@@ -31,11 +31,13 @@ sum_by-ones (r ∷ rows) = let a = sum_by-cons (λ (r : NameRow). 1) r rows in l
 len_names : (rows : List ConfEntry) (names : List NameRow) (m : Names) → is_rising names ≡ true → SameNames rows names m → len m ≡ length names
 len_names rows names m rising same = sym (total-ones m) ∙ names_total rows names m (λ _. 1) (λ _. 1) rising same (λ r h _. refl) ∙ sum_by-ones names
 
+-- the size of what has names is their number
 pub size_names : (c : Content) (m : Names) → names_in c ≡ Some m → size_of c ≡ len m
 size_names (BytesOf b) m is = absurd (some_none is refl)
 size_names (TextOf b) m is = absurd (some_none is refl)
 size_names (NamesOf k) m is = ap len (some_same refl is)
 
+-- and it uses 512 bytes for each
 pub used_names : (c : Content) (m : Names) → names_in c ≡ Some m → tree.used_by c ≡ 512 * len m
 used_names (BytesOf b) m is = absurd (some_none is refl)
 used_names (TextOf b) m is = absurd (some_none is refl)
@@ -52,6 +54,7 @@ size_content rows g (Dir a names) c rising k =
     let l = len_names rows names m.0 rising m.2 in
     omega (arith, e, l)
 
+-- a node uses what its entry uses
 pub used_content : (rows : List ConfEntry) (g : ℕ) (o : Object) (c : Content) → is_rising (names_of (record { generation = g; object = o })) ≡ true → SameContent rows o c →
     tree.used_by c ≡ entries.used_by (record { generation = g; object = o })
 used_content rows g Null c rising k = absurd k
@@ -72,7 +75,7 @@ names_content rows g (Link a b) c dir k = absurd (let bad : false ≡ true = dir
 names_content rows g (Dir a names) c dir k = some_and (names_in c) (SameNames rows names) k
 
 -- and what has names is a directory
-dir_content : (rows : List ConfEntry) (g : ℕ) (o : Object) (c : Content) (m : Names) → SameContent rows o c → names_in c ≡ Some m → is_dir (record { generation = g; object = o }) ≡ true
+pub dir_content : (rows : List ConfEntry) (g : ℕ) (o : Object) (c : Content) (m : Names) → SameContent rows o c → names_in c ≡ Some m → is_dir (record { generation = g; object = o }) ≡ true
 dir_content rows g Null c m k is = absurd k
 dir_content rows g (File a b) c m k is = absurd (some_none is (ap names_in k))
 dir_content rows g (Link a b) c m k is = absurd (some_none is (ap names_in k))

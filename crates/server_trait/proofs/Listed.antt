@@ -48,6 +48,7 @@ module _ {X Y V : Type 0} (key : X → Option (List ℕ)) (f : V → ℕ) (g : Y
       by_index zero z q ne at is = absurd (ne (some_same is (ap key (let same : z ≡ x = (let e : Some x ≡ Some z = at in cc) in same) ∙ is_key)))
       by_index (suc i) z q ne at is = (i, z, at, is)
 
+  -- the sum over the map is the sum over the list
   pub total-listed : (m : ByBytes V) (xs : List X) (ys : List Y) → IsListed m xs ys → total f m ≡ sum_by g ys
   total-listed m [] [] k = total-none nat_list_cmp_total f m (λ q v is. let c = k.covers q v is in absurd (some_none c.2 refl))
   total-listed m [] (y ∷ ys) k = absurd (let e = k.size in omega arith)
