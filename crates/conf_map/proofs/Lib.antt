@@ -3,6 +3,7 @@ pub mod ArrayFacts
 pub mod Below
 pub mod Bounds
 pub mod Counted
+pub mod DirCalls
 pub mod Fattrs
 pub mod Frames
 pub mod InStep
@@ -15,4 +16,5 @@ pub mod Seen
 pub mod Shows
 pub mod Sizes
 pub mod Targets
+pub mod UsedBytes
 pub mod Timed
