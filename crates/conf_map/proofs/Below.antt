@@ -1,5 +1,5 @@
 -- Where the array is valid each row's node lies at or below the export directory.
-use Rattle.std.proofs.Common.{◌≡◌, ℕ, zero, suc, true, List, Option, Some, sym, ap, ◌∙◌, subst}
+use Rattle.std.proofs.Common.{◌≡◌, ℕ, zero, suc, true, List, Option, Some, ap, ◌∙◌, subst}
 use Rattle.nfs2_types.specs.declared.Limits.{Limits}
 use Rattle.server_trait.specs.Tree.{Tree, target}
 use Rattle.server_trait.specs.Step.{LeadsIn, IsAtOrBelow}

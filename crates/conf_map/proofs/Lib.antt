@@ -3,6 +3,7 @@ pub mod ArrayFacts
 pub mod Below
 pub mod Bounds
 pub mod Counted
+pub mod DirCalls
 pub mod Fattrs
 pub mod Frames
 pub mod FreshTable
@@ -17,4 +18,5 @@ pub mod Seen
 pub mod Shows
 pub mod Sizes
 pub mod Targets
+pub mod UsedBytes
 pub mod Timed

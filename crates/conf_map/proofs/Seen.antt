@@ -1,28 +1,21 @@
 -- What a table and a server tell of the array that they stand for: objects by handle, names, and free indexes.
-use Rattle.std.proofs.Common.{◌≡◌, ◌≢◌, ◌⊎◌, inl, inr, ℕ, zero, suc, ◌+◌, ◌-◌, ◌^◌, ◌<◌, arith, true, false, cond, Bool, List, [], ◌∷◌, length, Option, Some, None, IsSome, IsSomeAnd, slice_get, refl, sym, ap, ◌∙◌, subst}
-use Rattle.std.specs.Prelude.{◌&&◌, ◌||◌, not, ◌==◌, nat_lt, if◌then◌else◌, is_some, is_none, unwrap_or, position}
+use Rattle.std.proofs.Common.{◌≡◌, ℕ, zero, suc, ◌+◌, ◌-◌, ◌^◌, arith, true, false, cond, Bool, List, [], ◌∷◌, length, Option, Some, None, slice_get, refl, sym, ap, ◌∙◌, subst}
+use Rattle.std.specs.Prelude.{◌&&◌, not, ◌==◌, nat_lt, if◌then◌else◌, is_none, unwrap_or, position}
 use Rattle.std.specs.List.{prefix_len, position_or_len}
 use Rattle.std.specs.Option.{option_and_then, option_map}
-use Rattle.std.specs.FinMap.{get}
-use Rattle.std.proofs.lemmas.List.Quantifiers.{position-Some}
 use Rattle.nfs2_types.specs.declared.handle.Oid.{Oid}
 use Rattle.nfs2_types.specs.Handle.{oid_in}
-use Rattle.server_trait.specs.Tree.{Tree, Node, Names, node_at, names_at, names_in, target}
-use Rattle.server_trait.proofs.TreeLaws.{some_and, is_some_and, some_none, some_same, and_then_some, slice_get-along, names_at-node, target-node}
+use Rattle.server_trait.specs.Tree.{Tree}
+use Rattle.server_trait.proofs.TreeLaws.{some_none, some_same, and_then_some, slice_get-along}
 use Rattle.server_trait.specs.declared.bench.ConfEntry.{ConfEntry}
 use Rattle.server_trait.specs.declared.bench.ConfTable.{ConfTable}
-use Rattle.abs_model.specs.declared.entry.NameRow.{NameRow}
-use Rattle.abs_model.specs.declared.entry.Object.{Object}
 use Rattle.abs_model.specs.declared.entry.Entry.{Entry}
-use Rattle.abs_model.specs.Objects.{is_null, is_dir, names_of, row_of}
-use Rattle.abs_model.specs.Array.{entry_at, null_entry, is_named_by, live, at, can_take, free, has_name}
-use Rattle.abs_model.specs.Array as array
+use Rattle.abs_model.specs.Objects.{is_null}
+use Rattle.abs_model.specs.Array.{entry_at, null_entry, is_named_by, live, can_take, free}
 use Rattle.conf_map.specs.declared.table.Located.{Located}
-use Rattle.conf_map.specs.Stands.{handle_at, Leads, Stands}
-use Rattle.conf_map.specs.Moves.{IsAt}
+use Rattle.conf_map.specs.Stands.{Stands}
 use Rattle.conf_map.specs.Tables.{live_in, located, IsLive, is_free_row}
 use Rattle.conf_map.proofs.Frames.{entry_at-is, entry_at-some, handle_of_row, map_some}
-use Rattle.conf_map.proofs.ArrayFacts.{eq_of}
 use Rattle.conf_map.proofs.LiveRows.{live_object, at_live}
 
 -- LISTS
@@ -52,7 +45,7 @@ position-along p q xs ys n same =
 
 module _ (s : Option Tree) (table : ConfTable) (A : List Entry) (st : Stands s table A) where
   -- a row is null where its entry is
-  null_agrees : (i : ℕ) (r : ConfEntry) (e : Entry) → slice_get table.rows.items i ≡ Some r → slice_get A i ≡ Some e → is_none r.handle ≡ is_null e
+  pub null_agrees : (i : ℕ) (r : ConfEntry) (e : Entry) → slice_get table.rows.items i ≡ Some r → slice_get A i ≡ Some e → is_none r.handle ≡ is_null e
   null_agrees i r e at_r at_e = by_handle r.handle refl
     where
       by_handle : (o : Option (List ℕ)) → r.handle ≡ o → is_none o ≡ is_null e

@@ -1,4 +1,4 @@
-use Rattle.std.proofs.Common.{◌≡◌, ◌∙◌, sym}
+use Rattle.std.proofs.Common.{◌∙◌}
 use Rattle.nfs2_types.specs.declared.NfsResult.TheVariants.{Node}
 use Rattle.conf_map.proofs.Shows.{row_read, oid_read}
 use Rattle.conf_map.proofs.show.node_of.Goals as goal
