@@ -1,0 +1,5 @@
+mod Additions
+mod Makings
+mod NewNodes
+mod Refusals
+mod TableRows
