@@ -1,9 +1,9 @@
 -- A new directory: what it asks of server and table, and that they stand for the array which has it.
-use Rattle.std.proofs.Common.{◌≡◌, ◌≢◌, inl, inr, ℕ, ◌+◌, ◌-◌, ◌^◌, ◌<◌, ◌≤◌, arith, Bool, true, false, List, [], ◌∷◌, length, set, Option, Some, None, IsSomeAnd, is_some, slice_get, slice_set, get_or, Fits, w32, refl, sym, ap, ◌∙◌, subst}
-use Rattle.std.specs.Prelude.{◌&&◌, nat_lt, bytes_eq, cond, if◌then◌else◌}
+use Rattle.std.proofs.Common.{◌≡◌, ◌≢◌, inl, inr, ℕ, ◌+◌, ◌-◌, ◌^◌, ◌<◌, arith, Bool, true, false, List, [], ◌∷◌, length, set, Option, Some, None, IsSomeAnd, slice_get, slice_set, get_or, Fits, w32, refl, sym, ap, ◌∙◌, subst}
+use Rattle.std.specs.Prelude.{nat_lt, bytes_eq, cond, if◌then◌else◌}
 use Rattle.std.specs.Ordering.{nat_cmp}
 use Rattle.std.specs.Cmp.Lexicographic.{slice_cmp}
-use Rattle.std.specs.FinMap.{get, insert, empty, len, get-empty}
+use Rattle.std.specs.FinMap.{insert, len, get-empty}
 use Rattle.std.specs.Option.{option_and_then}
 use Rattle.std.proofs.lemmas.Option.{slice_get_read, slice_get_within}
 use Rattle.std.proofs.lemmas.List.Quantifiers.{position-Some}
@@ -12,7 +12,7 @@ use Rattle.std.proofs.lemmas.Slice.Eq.{bytes_eq-Decides}
 use Rattle.nfs2_types.specs.declared.Time.{Time}
 use Rattle.server_trait.specs.Tree.{Tree, Server, Node, Names, Content, BytesOf, TextOf, NamesOf, node_at, names_at, names_in, with_names, used}
 use Rattle.server_trait.specs.Step.{LacksName}
-use Rattle.server_trait.proofs.TreeLaws.{some_and, is_some_and, some_none, some_same, one_or_not, bytes_or_not, slice_get-along, names_at-node, get-insert_same, get-insert_other}
+use Rattle.server_trait.proofs.TreeLaws.{some_and, is_some_and, some_none, some_same, one_or_not, slice_get-along, names_at-node, get-insert_same, get-insert_other}
 use Rattle.server_trait.specs.declared.bench.ConfEntry.{ConfEntry}
 use Rattle.server_trait.specs.declared.bench.ConfTable.{ConfTable}
 use Rattle.abs_model.specs.declared.entry.Attr.{Attr}
@@ -25,12 +25,10 @@ use Rattle.abs_model.specs.Array.{entry_at, null_entry, can_take}
 use Rattle.abs_model.specs.Machine.{row_to, made}
 use Rattle.abs_model.specs.Machine as machine
 use Rattle.abs_model.proofs.Facts.{no_row}
-use Rattle.abs_model.proofs.RowLists.{lt_differs}
 use Rattle.conf_map.specs.Fresh as fresh
-use Rattle.conf_map.specs.Stands.{handle_at, SameAttr, Leads, SameNames, Stands}
-use Rattle.conf_map.specs.Moves.{IsAt, SetsName, MakesNode, OthersStay}
+use Rattle.conf_map.specs.Stands.{handle_at, SameAttr, Leads, SameNames}
+use Rattle.conf_map.specs.Moves.{IsAt, SetsName, MakesNode}
 use Rattle.conf_map.specs.Tables.{index_in, IsUnshared}
-use Rattle.conf_map.specs.declared.table.Located.{Located}
 use Rattle.conf_map.proofs.Agrees.{used_agrees, nodes_free}
 use Rattle.conf_map.proofs.ArrayFacts.{lt_of, within_at}
 use Rattle.conf_map.proofs.Frames.{entry_at-some, handle_of_row, handle_node}

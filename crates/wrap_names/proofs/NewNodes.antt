@@ -1,9 +1,9 @@
 -- A directory that was just made at the server gets its attributes, and is then asked for its number.
-use Rattle.std.proofs.Common.{◌≡◌, ◌≢◌, ℕ, List, Option, Some, None, Err, Ok, IsSome, IsSomeAnd, is_some, refl, sym, ap, ◌∙◌, subst}
+use Rattle.std.proofs.Common.{◌≡◌, ◌≢◌, ℕ, List, Option, Some, Err, IsSome, IsSomeAnd, is_some, sym, ap, ◌∙◌, subst}
 use Rattle.std.specs.FinMap.{insert, empty}
 use Rattle.server_trait.specs.Tree.{Tree, Node, NamesOf, node_at, new_node, with_attr, with_names, with_node, edited, named}
 use Rattle.server_trait.specs.Step.{LacksName, IsBroken, Outcome, OnlySoft}
-use Rattle.server_trait.specs.Calls.{Made, IsAttr, NodeErr, IsNewNumber}
+use Rattle.server_trait.specs.Calls.{Made, IsAttr, NodeErr}
 use Rattle.server_trait.specs.declared.server.SrvErr.{SrvErr}
 use Rattle.server_trait.specs.declared.server.NodeAttr.{NodeAttr}
 use Rattle.server_trait.proofs.TreeLaws.{some_and, is_some_and, some_none, some_same, get-insert_other, root-edited, node_at-edited_same, node_at-edited_other}

@@ -1,5 +1,5 @@
 -- The refusals of a call that makes a directory, and what it changes where none holds.
-use Rattle.std.proofs.Common.{◌≡◌, ℕ, ◌+◌, ◌-◌, ◌^◌, ◌<◌, ◌≤◌, arith, Bool, true, false, cond, List, [], ◌∷◌, ◌++◌, length, map, Option, Some, None, Result, Ok, Err, refl, sym, ap, ◌∙◌, subst}
+use Rattle.std.proofs.Common.{◌≡◌, ℕ, ◌+◌, ◌-◌, ◌≤◌, arith, Bool, true, false, List, [], ◌∷◌, ◌++◌, length, map, Option, Some, None, Result, Ok, Err, refl, sym, ap, ◌∙◌, subst}
 use Rattle.std.specs.Prelude.{◌||◌, ◌&&◌, not, nat_lt, nat_le, is_none, is_some, unwrap_or, position, if◌then◌else◌}
 use Rattle.std.proofs.lemmas.Bool.{ltb-false, and_from, not_from_false}
 use Rattle.std.proofs.lemmas.Bool.Decides.{nat_tests}
@@ -11,30 +11,26 @@ use Rattle.nfs2_types.specs.declared.Stat.{Stat}
 use Rattle.nfs2_types.specs.declared.stat.TheConstants.{EXIST, NOSPC}
 use Rattle.nfs2_types.specs.declared.NfsResult.{NfsResult}
 use Rattle.nfs2_types.specs.declared.NfsResult.TheVariants as results
-use Rattle.nfs2_types.specs.Call.{make_dir, call_fits}
-use Rattle.nfs2_types.specs.Times.{is_time}
+use Rattle.nfs2_types.specs.Call.{make_dir}
 use Rattle.nfs2_types.specs.Names.{is_bad, is_dot, is_name}
-use Rattle.server_trait.specs.Tree.{Tree, Server}
+use Rattle.server_trait.specs.Tree.{Tree}
 use Rattle.server_trait.specs.declared.bench.ConfEntry.{ConfEntry}
 use Rattle.server_trait.specs.declared.bench.ConfTable.{ConfTable}
 use Rattle.abs_model.specs.declared.entry.Attr.{Attr}
 use Rattle.abs_model.specs.declared.entry.Entry.{Entry}
-use Rattle.abs_model.specs.declared.entry.Object.TheVariants.{Dir}
 use Rattle.abs_model.specs.declared.entry.Change.{Change}
 use Rattle.abs_model.specs.Objects.{is_dir, new_attr}
 use Rattle.abs_model.specs.Array.{entry_at, at, changed, free, has_name, target, used}
-use Rattle.abs_model.specs.Machine.{Refusal, ◌answers◌, first_of, in_dir, no_new, no_room, refusals, changes, adds, found_or_made, answer, node_at, effect, array_after, result_of, told}
-use Rattle.abs_model.specs.Valid.{Valid}
-use Rattle.abs_model.proofs.Law.{stays_valid}
+use Rattle.abs_model.specs.Machine.{Refusal, ◌answers◌, first_of, in_dir, no_new, no_room, changes, found_or_made, answer, node_at, effect, array_after, result_of, told}
 use Rattle.abs_model.proofs.Named.{at-live}
-use Rattle.conf_map.specs.Stands.{StandsValid, StandValid, AreWithin, HasRoom, Stands}
-use Rattle.conf_map.specs.Tables.{is_free_row, IsLive}
+use Rattle.conf_map.specs.Stands.{StandsValid, StandValid, AreWithin}
+use Rattle.conf_map.specs.Tables.{is_free_row}
 use Rattle.conf_map.specs.Found.{IsDirCall, DirFound, NameFound}
 use Rattle.conf_map.specs.declared.table.Located.{Located}
 use Rattle.conf_map.proofs.Seen.{free_agrees}
 use Rattle.wrap_names.specs.declared.place.Place.{Place}
-use Rattle.wrap_names.specs.Places.{refused, IsIndex, IsPlace, CanAdd}
-use Rattle.wrap_names.specs.News.{added, with_dir, IsAdded}
+use Rattle.wrap_names.specs.Places.{refused, IsIndex, IsPlace}
+use Rattle.wrap_names.specs.News.{added, with_dir}
 
 -- WHAT STANDS
 

@@ -32,11 +32,7 @@ fn is_full(server: &mut Srv, table: &ConfTable, limits: &Limits) -> Result<bool,
 }
 
 /// The index of a new object, or `None` where no index is free or the bytes would pass their limit.
-fn new_index(
-    server: &mut Srv,
-    table: &ConfTable,
-    limits: &Limits,
-) -> Result<Option<u32>, WrapErr>
+fn new_index(server: &mut Srv, table: &ConfTable, limits: &Limits) -> Result<Option<u32>, WrapErr>
     requires stands { (A : List Entry) × StandsValid limits.now (state server.old).tree table.now A }
     requires within { AreWithin limits.now }
     ensures found { IfOk result (λ o. (A : List Entry) →

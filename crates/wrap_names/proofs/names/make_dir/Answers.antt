@@ -21,9 +21,12 @@ returns-in-Err-clause-noticed g c A k = refusal_noticed c.args.limits.now _ c.ar
     A k g.M.Modify.noticed c.args.saver.now
 
 pub node_of-requires-clause-stands : goal.node_of-requires-clause-stands
-node_of-requires-clause-stands g c = (_, making_again c.args.limits.now _ c.args.table.now c.args.cred.now c.args.time c.args.dir.now c.args.name.now c.args.sattr.now c.in_ok-place.field-0 c.in_ok-place.ensures.found c.in-Ok.place c.in-Ok.is
-    _ (c.in_ok-tell_both.ensures.same ∙ c.in_ok-place.ensures.same) _ (c.in_ok-tell_both.ensures.watched.limits ∙ c.in_ok-place.ensures.watched.limits) c.requires.room
-    _ c.add_dir.new.table c.in_ok-at.at c.in_ok-at.ensures.added c.requires.stands.0 c.requires.stands.1 c.requires.within c.requires.time c.requires.fits)
+node_of-requires-clause-stands g c = (
+  _,
+  making_again c.args.limits.now _ c.args.table.now c.args.cred.now c.args.time c.args.dir.now c.args.name.now c.args.sattr.now c.in_ok-place.field-0 c.in_ok-place.ensures.found c.in-Ok.place c.in-Ok.is
+      _ (c.in_ok-tell_both.ensures.same ∙ c.in_ok-place.ensures.same) _ (c.in_ok-tell_both.ensures.watched.limits ∙ c.in_ok-place.ensures.watched.limits) c.requires.room
+      _ c.add_dir.new.table c.in_ok-at.at c.in_ok-at.ensures.added c.requires.stands.0 c.requires.stands.1 c.requires.within c.requires.time c.requires.fits,
+)
 
 pub returns-clause-answers : goal.returns-clause-answers
 returns-clause-answers g c A k =

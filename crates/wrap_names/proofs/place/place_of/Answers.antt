@@ -1,6 +1,4 @@
-use Rattle.std.proofs.Common.{◌≡◌, ◌∙◌, sym, subst, List}
-use Rattle.abs_model.specs.declared.entry.Entry.{Entry}
-use Rattle.conf_map.specs.Stands.{StandsValid}
+use Rattle.std.proofs.Common.{◌∙◌, sym, subst}
 use Rattle.wrap_names.specs.Places.{IndexFound}
 use Rattle.wrap_names.proofs.Refusals.{stands_still, good_name, not_found, dir_call, can_follow, name_found, refused_dot, refused_name, refused_space}
 use Rattle.wrap_names.proofs.place.place_of.Goals as goal
