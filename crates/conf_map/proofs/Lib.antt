@@ -1,4 +1,5 @@
 pub mod Agrees
+pub mod Answered
 pub mod ArrayFacts
 pub mod Below
 pub mod Bounds
