@@ -15,6 +15,7 @@ pub mod LiveRows
 pub mod Made
 pub mod Named
 pub mod OneArray
+pub mod PlacedRows
 pub mod RisingRows
 pub mod RowFacts
 pub mod Seen
