@@ -141,6 +141,7 @@ pub fn touch_row(table: &mut ConfTable, index: u32, time: Time)
     ensures row { (r : ConfEntry) → slice_get table.old.rows.items index ≡ Some r →
         table.new.rows.items ≡ slice_set table.old.rows.items index (touched time r) }
     ensures by_handle { table.new.by_handle ≡ table.old.by_handle }
+    ensures in_step { IsInStep table.old → IsInStep table.new }
 {
     let row = table.rows[index as usize];
     table.rows[index as usize] = ConfEntry {
