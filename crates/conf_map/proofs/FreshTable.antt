@@ -1,17 +1,15 @@
 -- A tree with empty directories, and a table with one row in use, stand for the array with which a service begins.
-use Rattle.std.proofs.Common.{inl, inr, ◌≡◌, ◌≢◌, ◌⊎◌, ◌↔◌, ℕ, zero, suc, ◌-◌, arith, true, false, cond, List, [], ◌∷◌, Option, Some, None, length, slice_get, replicate, refl, sym, ap, ◌∙◌, subst}
-use Rattle.std.specs.Option.{option_and_then}
+use Rattle.std.proofs.Common.{inl, inr, ◌≡◌, ◌⊎◌, ◌↔◌, ℕ, zero, suc, ◌-◌, arith, true, false, cond, List, ◌∷◌, Option, Some, None, length, slice_get, replicate, refl, sym, ap, ◌∙◌, subst}
 use Rattle.std.specs.Ordering.{nat_cmp, is_eq}
 use Rattle.std.specs.Cmp.Lexicographic.{slice_cmp}
 use Rattle.std.specs.BTreeMap as ordered
 use Rattle.std.specs.FinMap.{get, empty, get-empty}
 use Rattle.std.proofs.lemmas.List.{length-replicate}
-use Rattle.server_trait.specs.Tree.{Tree, Node, NamesOf, node_at}
+use Rattle.server_trait.specs.Tree.{Tree}
 use Rattle.server_trait.proofs.TreeLaws.{same-keys, same-key_refl, some_same, some_none}
 use Rattle.server_trait.specs.declared.bench.ConfEntry.{ConfEntry}
 use Rattle.server_trait.specs.declared.bench.ConfTable.{ConfTable}
 use Rattle.abs_model.specs.declared.entry.Entry.{Entry}
-use Rattle.abs_model.specs.Objects.{is_dir}
 use Rattle.abs_model.specs.Array.{null_entry, empty_root, empty_array}
 use Rattle.conf_map.specs.Stands.{handle_at, Placed, Leads, RowIs, Stands}
 use Rattle.conf_map.specs.Fresh.{IsEmptyTree, export_node, null_row, export_row}

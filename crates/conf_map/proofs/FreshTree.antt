@@ -1,10 +1,10 @@
 -- The tree that a service begins with: an empty root, and two directories that are made in it.
-use Rattle.std.proofs.Common.{◌≡◌, ◌≢◌, ◌⊎◌, inl, inr, ℕ, ◌+◌, ◌*◌, ◌≤◌, arith, true, false, cond, List, Option, Some, None, IsSome, IsSomeAnd, refl, sym, ap, ◌∙◌, subst}
-use Rattle.std.specs.Option.{option_and_then, is_some}
+use Rattle.std.proofs.Common.{◌≡◌, ◌≢◌, ◌⊎◌, inl, inr, ℕ, ◌+◌, ◌≤◌, arith, cond, List, Option, Some, None, IsSome, IsSomeAnd, refl, sym, ap, ◌∙◌, subst}
+use Rattle.std.specs.Option.{is_some}
 use Rattle.std.specs.Ordering.{nat_cmp}
 use Rattle.std.specs.Cmp.Lexicographic.{slice_cmp, nat_list_cmp_total}
-use Rattle.std.specs.FinMap.{FinMap, get, insert, empty, len, get-empty, len-empty, len-insert}
-use Rattle.server_trait.specs.Tree.{Tree, Node, Content, BytesOf, TextOf, NamesOf, Names, ByBytes, node_at, names_at, names_in, new_node, with_attr, with_node, with_names, edited, named, used, used_by}
+use Rattle.std.specs.FinMap.{get, insert, empty, len, get-empty, len-empty, len-insert}
+use Rattle.server_trait.specs.Tree.{Tree, Node, Content, BytesOf, TextOf, NamesOf, Names, ByBytes, node_at, names_at, names_in, new_node, with_attr, with_node, with_names, edited, used, used_by}
 use Rattle.server_trait.specs.Step.{LacksName}
 use Rattle.server_trait.specs.Calls.{IsFresh, IsNewNumber, Made}
 use Rattle.server_trait.specs.declared.server.ServerLimits.{ServerLimits}

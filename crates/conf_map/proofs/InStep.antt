@@ -6,11 +6,12 @@ use Rattle.std.specs.Ordering.{nat_cmp, is_eq}
 use Rattle.std.specs.Cmp.Lexicographic.{slice_cmp}
 use Rattle.std.proofs.lemmas.Map.Text.{is_eq-slice_cmp}
 use Rattle.std.proofs.lemmas.Slice.Eq.{bytes_eq-Decides}
+use Rattle.nfs2_types.specs.declared.Time.{Time}
 use Rattle.server_trait.proofs.TreeLaws.{some_none, some_same, one_or_not, bytes_or_not}
 use Rattle.server_trait.specs.declared.bench.ConfEntry.{ConfEntry}
 use Rattle.server_trait.specs.declared.bench.ConfTable.{ConfTable}
 use Rattle.conf_map.specs.Stands.{handle_at}
-use Rattle.conf_map.specs.Tables.{index_in, has_handle, IsInStep, IsUnshared}
+use Rattle.conf_map.specs.Tables.{index_in, touched, has_handle, IsInStep, IsUnshared}
 
 -- LISTS
 
@@ -109,3 +110,17 @@ module _ (old : ConfTable) (rows' : List ConfEntry) (find : List ℕ → Option 
 
   pub in_step : (q : List ℕ) (k : ℕ) → (find q ≡ Some k) ↔ (handle_at rows' k ≡ Some q)
   in_step q k = (there q k, back q k)
+
+-- OTHER TIMES
+
+-- a row at other times keeps its handle
+pub touched_handles : (rows : List ConfEntry) (d : ℕ) (r : ConfEntry) (t : Time) → slice_get rows d ≡ Some r → (k : ℕ) → handle_at (slice_set rows d (touched t r)) k ≡ handle_at rows k
+touched_handles rows d r t is k = elim (one_or_not k d) as (λ _. handle_at (slice_set rows d (touched t r)) k ≡ handle_at rows k) [
+  | inl e ↦ ap (λ k. handle_at (slice_set rows d (touched t r)) k) e ∙ ap (option_and_then (λ (r : ConfEntry). r.handle)) (slice_get-set_same rows d (touched t r) r is)
+      ∙ sym (ap (option_and_then (λ (r : ConfEntry). r.handle)) is) ∙ sym (ap (handle_at rows) e)
+  | inr ne ↦ ap (option_and_then (λ (r : ConfEntry). r.handle)) (slice_get-set_other rows d k (touched t r) ne)
+]
+
+pub touched_in_step : (old : ConfTable) (rows' : List ConfEntry) (find : List ℕ → Option ℕ) → ((q : List ℕ) → find q ≡ index_in old q) → ((k : ℕ) → handle_at rows' k ≡ handle_at old.rows.items k) → IsInStep old →
+    (q : List ℕ) (k : ℕ) → (find q ≡ Some k) ↔ (handle_at rows' k ≡ Some q)
+touched_in_step old rows' find same handles step q k = ((λ is. handles k ∙ (step q k).0 (sym (same q) ∙ is)), (λ at. same q ∙ (step q k).1 (sym (handles k) ∙ at)))

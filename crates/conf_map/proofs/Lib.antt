@@ -1,4 +1,5 @@
 pub mod Agrees
+pub mod Answered
 pub mod ArrayFacts
 pub mod Below
 pub mod Bounds
@@ -13,10 +14,13 @@ pub mod Kept
 pub mod LiveRows
 pub mod Made
 pub mod Named
+pub mod OneArray
+pub mod PlacedRows
+pub mod RisingRows
 pub mod RowFacts
 pub mod Seen
 pub mod Shows
 pub mod Sizes
 pub mod Targets
-pub mod UsedBytes
 pub mod Timed
+pub mod UsedBytes

@@ -5,6 +5,7 @@ use Rattle.std.specs.Ordering.{nat_cmp}
 use Rattle.std.specs.Cmp.Lexicographic.{slice_cmp}
 use Rattle.std.specs.BTreeMap as ordered
 use Rattle.nfs2_types.specs.declared.handle.Oid.{Oid}
+use Rattle.nfs2_types.specs.declared.Time.{Time}
 use Rattle.nfs2_types.specs.Handle.{oid_in}
 use Rattle.conf_map.specs.declared.table.Located.{Located}
 use Rattle.server_trait.specs.declared.bench.ConfEntry.{ConfEntry}
@@ -47,6 +48,10 @@ IsUnshared rows index handle = (i : ℕ) (h : List ℕ) → handle ≡ Some h �
 -- a row without its handle, which keeps its generation
 abbrev pub null_row : ConfEntry → ConfEntry
 null_row r = record r { handle = None }
+
+-- a row whose object is written at a moment
+abbrev pub touched : Time → ConfEntry → ConfEntry
+touched t r = record r { mtime = t; ctime = t }
 
 -- the rows and the map's pairs are as they were
 pub record IsSameTable (old new : ConfTable) : Type 0 where

@@ -1,6 +1,6 @@
 //! A server and its table as a service begins.
 
-ghost use Rattle.std.specs.Prelude.{◌≡◌, ◌≢◌, ◌≤◌, ◌+◌, ◌-◌, ◌∷◌, ℕ, List, Option, Some, None, Err, true, cond, replicate, IsSome, IsSomeAnd, IfOk, OnOk};
+ghost use Rattle.std.specs.Prelude.{◌≡◌, ◌≤◌, ◌+◌, ◌-◌, ◌∷◌, ℕ, List, Some, None, true, cond, replicate, IsSome, IsSomeAnd, IfOk, OnOk};
 ghost use Rattle.std.specs.Ordering.{nat_cmp, is_eq};
 ghost use Rattle.std.specs.Cmp.Lexicographic.{slice_cmp};
 ghost use Rattle.std.specs.BTreeMap as ordered;
@@ -16,7 +16,7 @@ ghost use Rattle.conf_map.specs.Fresh.{HoldsUpTo, HasRoom, IsEmptyTree, null_row
 
 use crate::failure::broken;
 use nfs2_types::{Handle, Time};
-use server_trait::{ConfEntry, ConfTable, FileServer, Srv, SrvErr, WrapErr};
+use server_trait::{ConfEntry, ConfTable, FileServer, Srv, WrapErr};
 use std::alloc::{AllocError, Global};
 use std::collections::BTreeMap;
 
@@ -35,7 +35,8 @@ pub fn make_dir(server: &mut Srv, dir: &Handle, name: &[u8]) -> Result<Handle, W
     requires lacks { IsSomeAnd (state server.old).tree (λ t. LacksName t dir.now name.now) }
     requires name { is_name name.now ≡ true }
     requires room { HasRoom (state server.old) }
-    ensures made { IfOk result (λ h. (t : Tree) → (state server.old).tree ≡ Some t → Made t dir.now name.now (NamesOf empty) h (state server.new).tree) }
+    ensures made { IfOk result (λ h. (t : Tree) → (state server.old).tree ≡ Some t →
+        Made t dir.now name.now (NamesOf empty) h (state server.new).tree) }
     ensures watched { Watched (state server.old) (state server.new) result }
 {
     match server.mkdir(dir, name) {
@@ -47,7 +48,8 @@ pub fn make_dir(server: &mut Srv, dir: &Handle, name: &[u8]) -> Result<Handle, W
 /// Lets everyone read, write and search a directory.
 fn open_to_all(server: &mut Srv, dir: &Handle) -> Result<(), WrapErr>
     requires node { IsSomeAnd (state server.old).tree (λ t. IsSome (node_at t dir.now)) }
-    ensures set { OnOk result ((t : Tree) → (state server.old).tree ≡ Some t → (state server.new).tree ≡ Some (edited t dir.now (with_attr 511 0 0))) }
+    ensures set { OnOk result ((t : Tree) → (state server.old).tree ≡ Some t →
+        (state server.new).tree ≡ Some (edited t dir.now (with_attr 511 0 0))) }
     ensures watched { Watched (state server.old) (state server.new) result }
 {
     match server.set_attr(dir, 0o777, 0, 0) {
@@ -59,7 +61,8 @@ fn open_to_all(server: &mut Srv, dir: &Handle) -> Result<(), WrapErr>
 /// The number of a node.
 fn number_of(server: &mut Srv, node: &Handle) -> Result<u64, WrapErr>
     requires node { IsSomeAnd (state server.old).tree (λ t. IsSome (node_at t node.now)) }
-    ensures number { IfOk result (λ number. (t : Tree) (n : Node) → (state server.old).tree ≡ Some t → node_at t node.now ≡ Some n → number ≡ n.number) }
+    ensures number { IfOk result (λ number. (t : Tree) (n : Node) → (state server.old).tree ≡ Some t →
+        node_at t node.now ≡ Some n → number ≡ n.number) }
     ensures tree { OnOk result ((state server.new).tree ≡ (state server.old).tree) }
     ensures watched { Watched (state server.old) (state server.new) result }
 {
@@ -90,8 +93,10 @@ fn make_tree(server: &mut Srv) -> Result<Place, WrapErr>
 /// The table of an empty array.
 fn first_table(alloc: Global, export: Place, n: u32) -> Result<ConfTable, AllocError>
     requires { 1 ≤ n }
-    ensures rows { IfOk result (λ table. table.rows.items ≡ export_row export.handle export.number ∷ replicate (n - 1) null_row) }
-    ensures by_handle { IfOk result (λ table. (q : List ℕ) → ordered.get (slice_cmp nat_cmp) table.by_handle q ≡ cond (is_eq (slice_cmp nat_cmp export.handle q)) (Some 0) None) }
+    ensures rows { IfOk result (λ table.
+        table.rows.items ≡ export_row export.handle export.number ∷ replicate (n - 1) null_row) }
+    ensures by_handle { IfOk result (λ table. (q : List ℕ) →
+        ordered.get (slice_cmp nat_cmp) table.by_handle q ≡ cond (is_eq (slice_cmp nat_cmp export.handle q)) (Some 0) None) }
 {
     let null = ConfEntry {
         generation: 0,

@@ -2,9 +2,9 @@
 
 ghost use Rattle.std.specs.Prelude.{◌≡◌, ◌<◌, ◌^◌, ◌&&◌, not, if◌then◌else◌, length, position, slice_get, slice_set, IfSome, OnErr, OnOk, Some, None, List, ℕ};
 ghost use Rattle.server_trait.specs.declared.bench.ConfEntry.{ConfEntry};
-ghost use Rattle.conf_map.specs.Tables.{live_in, located, index_in, is_free_row, null_row, has_handle, IsInStep, IsUnshared, IsSameTable};
+ghost use Rattle.conf_map.specs.Tables.{live_in, located, index_in, is_free_row, null_row, touched, has_handle, IsInStep, IsUnshared, IsSameTable};
 
-use nfs2_types::{Handle, NoMemory, Oid, oid_of};
+use nfs2_types::{Handle, NoMemory, Oid, Time, oid_of};
 use server_trait::{ConfEntry, ConfTable};
 
 /// The handle of an object's node, or `None` where its index is not below the number of rows, the row is null, or the
@@ -131,6 +131,22 @@ pub fn clear_row(table: &mut ConfTable, index: u32)
     unmap_handle(table, row.handle, None);
     table.rows[index as usize] = ConfEntry {
         handle: None,
+        ..row
+    };
+}
+
+/// Sets the times at which a row's object was written and changed. It takes no memory.
+pub fn touch_row(table: &mut ConfTable, index: u32, time: Time)
+    requires { index < length table.old.rows.items }
+    ensures row { (r : ConfEntry) → slice_get table.old.rows.items index ≡ Some r →
+        table.new.rows.items ≡ slice_set table.old.rows.items index (touched time r) }
+    ensures by_handle { table.new.by_handle ≡ table.old.by_handle }
+    ensures in_step { IsInStep table.old → IsInStep table.new }
+{
+    let row = table.rows[index as usize];
+    table.rows[index as usize] = ConfEntry {
+        mtime: time,
+        ctime: time,
         ..row
     };
 }
