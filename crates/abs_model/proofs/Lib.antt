@@ -2,6 +2,7 @@ pub mod AttrBounds
 pub mod Bounded
 pub mod Climbs
 pub mod EmptyFacts
+pub mod Examples
 pub mod Facts
 pub mod Kept
 pub mod Law

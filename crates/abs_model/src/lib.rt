@@ -6,3 +6,6 @@ mod laws;
 
 pub use entry::{Attr, Change, Entry, NameRow, Names, Object};
 pub use laws::{as_long, empty_is_valid, stays_valid, told_within, untold_stays};
+
+#[cfg(test)]
+mod tests;

@@ -1,15 +1,15 @@
 -- What is read is within the bounds of its procedure.
-use Rattle.std.proofs.Common.{◌≡◌, ℕ, zero, suc, ◌<◌, ◌≤◌, ◌%◌, ◌^◌, Bool, true, false, cond, eqb, ltb, List, length, Option, Some, None, Result, Ok, Err, refl, sym, subst, arith}
+use Rattle.std.proofs.Common.{◌≡◌, ℕ, zero, suc, ◌<◌, ◌≤◌, ◌%◌, ◌^◌, Bool, true, false, cond, eqb, ltb, List, Some, None, Result, Ok, Err, refl, sym, subst, arith}
 use Rattle.std.specs.Prelude.{◌&&◌, unwrap_or, IfOk}
 use Rattle.std.proofs.lemmas.Bool.{le-leb}
 use Rattle.xdr_core.specs.declared.error.XdrErr.{XdrErr}
-use Rattle.xdr_core.specs.Items.{Item, Value, Fits}
+use Rattle.xdr_core.specs.Items.{Value, Fits}
 use Rattle.xdr_core.specs.Grammar.{Grammar, gives, item, and_then, Spells}
 use Rattle.nfs2_types.specs.declared.args.SetTime.{SetTime}
 use Rattle.nfs2_types.specs.declared.args.Sattr.{Sattr}
 use Rattle.nfs2_types.specs.declared.args.Args.{Args}
 use Rattle.nfs2_types.specs.Call.{Call, call_of, set_time_fits, sattr_fits, call_fits, null, root, write_cache, set_attr, create, symlink, make_dir}
-use Rattle.nfs2_args.specs.Forms.{given, mode_given, when, sattr_of, sattr_form, get_attr_form, set_attr_form, lookup_form, read_link_form, read_form, write_form, create_form, remove_form, rename_form, link_form, symlink_form, make_dir_form, remove_dir_form, read_dir_form, stat_fs_form, args_form}
+use Rattle.nfs2_args.specs.Forms.{sattr_form, get_attr_form, set_attr_form, lookup_form, read_link_form, read_form, write_form, create_form, remove_form, rename_form, link_form, symlink_form, make_dir_form, remove_dir_form, read_dir_form, stat_fs_form, args_form}
 use Rattle.nfs2_args.specs.Spelling.{number_of, field_fits, seconds_fit, fields_fit, call_fields_fit}
 
 -- a fact of each value that a format gives

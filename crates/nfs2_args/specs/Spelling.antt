@@ -1,5 +1,5 @@
 -- The one spelling of a call that is written (RFC 1094, 2.2), and the calls that are read again from it.
-use Rattle.std.specs.Prelude.{ℕ, Bool, true, ◌&&◌, nat_lt, List, [], ◌++◌, Option, Some, None}
+use Rattle.std.specs.Prelude.{◌≡◌, ℕ, ◌<◌, ◌^◌, Bool, true, ◌&&◌, nat_lt, List, [], ◌++◌, length, Option, Some, None}
 use Rattle.xdr_core.specs.Items.{spell_word, spell_fixed, spell_opaque}
 use Rattle.nfs2_types.specs.declared.args.SetTime.{SetTime}
 use Rattle.nfs2_types.specs.declared.args.Sattr.{Sattr}
@@ -63,3 +63,80 @@ call_fields_fit (make_dir dir name sattr) = fields_fit sattr
 call_fields_fit (remove_dir dir name) = true
 call_fields_fit (read_dir dir cookie count) = true
 call_fields_fit (stat_fs node) = true
+
+-- ---- the spelling
+
+-- all ones where a field is not given (RFC 1094, 2.3.6)
+abbrev pub word_of : Option ℕ → ℕ
+word_of None = 4294967295
+word_of (Some n) = n
+
+-- all ones where a time is left alone, and 0 for the time of the request
+abbrev pub secs_of : SetTime → ℕ
+secs_of SetTime.Keep = 4294967295
+secs_of SetTime.Now = 0
+secs_of (SetTime.At t) = t.secs
+
+-- all ones where a time is left alone, and a million for the time of the request
+abbrev pub micros_of : SetTime → ℕ
+micros_of SetTime.Keep = 4294967295
+micros_of SetTime.Now = 1000000
+micros_of (SetTime.At t) = t.micros
+
+-- the two words of a time
+abbrev pub time_text : SetTime → List ℕ
+time_text t = spell_word (secs_of t) ++ spell_word (micros_of t)
+
+-- the eight words of a sattr (RFC 1094, 2.3.6)
+unfoldable pub sattr_text : Sattr → List ℕ
+sattr_text s =
+    spell_word (word_of s.mode) ++ (spell_word (word_of s.uid) ++ (spell_word (word_of s.gid) ++ (spell_word (word_of s.size)
+    ++ (spell_word (secs_of s.atime) ++ (spell_word (micros_of s.atime) ++ (spell_word (secs_of s.mtime) ++ spell_word (micros_of s.mtime)))))))
+
+-- a directory and a name in it (RFC 1094, 2.3.10)
+abbrev pub place_text : (dir name : List ℕ) → List ℕ
+place_text dir name = spell_fixed dir ++ spell_opaque name
+
+-- the arguments of a call; an ignored word is written as 0
+abbrev pub args_text : Call → List ℕ
+args_text null = []
+args_text root = []
+args_text write_cache = []
+args_text (get_attr node) = spell_fixed node
+args_text (set_attr node sattr) = spell_fixed node ++ sattr_text sattr
+args_text (lookup dir name) = place_text dir name
+args_text (read_link node) = spell_fixed node
+args_text (read file offset count) = spell_fixed file ++ (spell_word offset ++ (spell_word count ++ spell_word 0))
+args_text (write file offset bytes) = spell_fixed file ++ (spell_word 0 ++ (spell_word offset ++ (spell_word 0 ++ spell_opaque bytes)))
+args_text (create dir name sattr) = place_text dir name ++ sattr_text sattr
+args_text (remove dir name) = place_text dir name
+args_text (rename from name to to_name) = place_text from name ++ place_text to to_name
+args_text (link node dir name) = spell_fixed node ++ place_text dir name
+args_text (symlink dir name text sattr) = place_text dir name ++ (spell_opaque text ++ sattr_text sattr)
+args_text (make_dir dir name sattr) = place_text dir name ++ sattr_text sattr
+args_text (remove_dir dir name) = place_text dir name
+args_text (read_dir dir cookie count) = spell_fixed dir ++ (spell_word cookie ++ spell_word count)
+args_text (stat_fs node) = spell_fixed node
+
+-- ---- what the types of a program's arguments say of a call
+
+-- handles have 32 bytes, and words 32 bits
+abbrev pub IsShaped : Call → Type 0
+IsShaped null = Unit {0}
+IsShaped root = Unit {0}
+IsShaped write_cache = Unit {0}
+IsShaped (get_attr node) = length node ≡ 32
+IsShaped (set_attr node sattr) = length node ≡ 32
+IsShaped (lookup dir name) = length dir ≡ 32
+IsShaped (read_link node) = length node ≡ 32
+IsShaped (read file offset count) = (length file ≡ 32) × (offset < 2 ^ 32) × (count < 2 ^ 32)
+IsShaped (write file offset bytes) = (length file ≡ 32) × (offset < 2 ^ 32)
+IsShaped (create dir name sattr) = length dir ≡ 32
+IsShaped (remove dir name) = length dir ≡ 32
+IsShaped (rename from name to to_name) = (length from ≡ 32) × (length to ≡ 32)
+IsShaped (link node dir name) = (length node ≡ 32) × (length dir ≡ 32)
+IsShaped (symlink dir name text sattr) = length dir ≡ 32
+IsShaped (make_dir dir name sattr) = length dir ≡ 32
+IsShaped (remove_dir dir name) = length dir ≡ 32
+IsShaped (read_dir dir cookie count) = (length dir ≡ 32) × (cookie < 2 ^ 32) × (count < 2 ^ 32)
+IsShaped (stat_fs node) = length node ≡ 32

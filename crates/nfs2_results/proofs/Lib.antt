@@ -1,1 +1,5 @@
 mod EntryLists
+mod EntryReads
+mod Limits
+mod ResultReads
+mod Written

@@ -1,5 +1,5 @@
 -- Results as formats of items (RFC 1094, 2.2 and 2.3).
-use Rattle.std.specs.Prelude.{ℕ, zero, suc, ◌==◌, ◌||◌, if◌then◌else◌, Bool, List, [], ◌∷◌, ◌++◌}
+use Rattle.std.specs.Prelude.{ℕ, zero, suc, ◌==◌, ◌||◌, if◌then◌else◌, List, [], ◌∷◌, ◌++◌}
 use Rattle.xdr_core.specs.Items.{Item, word, boolean, fixed, any_word, any_opaque}
 use Rattle.xdr_core.specs.Grammar.{Grammar, gives, item, and_then}
 use Rattle.nfs2_types.specs.declared.fattr.Fattr.{Fattr}

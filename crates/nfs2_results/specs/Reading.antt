@@ -1,7 +1,7 @@
 -- What a reader gives that may want memory.
 use Rattle.std.specs.Prelude.{◌≡◌, ℕ, List, length, Some, Result, Ok, Err, IfOk}
 use Rattle.xdr_core.specs.declared.error.XdrErr.{XdrErr}
-use Rattle.xdr_core.specs.Grammar.{Cursor, Stop, Grammar, Spells, IsFirstWrong}
+use Rattle.xdr_core.specs.Grammar.{Cursor, Stop, Spells, IsFirstWrong}
 use Rattle.nfs2_types.specs.declared.results.NfsResult.{NfsResult}
 use Rattle.nfs2_results.specs.declared.error.ResErr.{ResErr}
 use Rattle.nfs2_results.specs.declared.error.ResErr.TheVariants.{Xdr, NoMemory}

@@ -1,10 +1,12 @@
 -- The one spelling of a result, and the results that have one (RFC 1094, 2.2 and 2.3).
-use Rattle.std.specs.Prelude.{◌≢◌, ℕ, ◌≤◌, true, false, List, [], ◌∷◌, ◌++◌, length, All}
+use Rattle.std.specs.Prelude.{◌≡◌, ◌≢◌, ℕ, ◌^◌, ◌<◌, ◌≤◌, true, false, List, [], ◌∷◌, ◌++◌, length, All}
 use Rattle.xdr_core.specs.Items.{spell_word, spell_bool, spell_fixed, spell_opaque}
+use Rattle.xdr_core.specs.Grammar.{Spells}
 use Rattle.nfs2_types.specs.declared.fattr.Fattr.{Fattr}
 use Rattle.nfs2_types.specs.declared.results.ListEntry.{ListEntry}
 use Rattle.nfs2_types.specs.declared.results.NfsResult.{NfsResult}
 use Rattle.nfs2_types.specs.declared.results.NfsResult.TheVariants.{Nothing, Refused, Done, Attr, Node, Path, Content, Entries, Space}
+use Rattle.nfs2_results.specs.Forms.{fattr_form, entry_form}
 
 -- the seventeen words of the attributes, in their order (2.3.5)
 unfoldable pub fattr_text : Fattr → List ℕ
@@ -47,3 +49,28 @@ HasSpelling (Path text) = length text ≤ 1024
 HasSpelling (Content a bytes) = length bytes ≤ 8192
 HasSpelling (Entries entries eof) = All (λ e. length e.name ≤ 255) entries
 HasSpelling (Space tsize bsize blocks bfree bavail) = Unit {0}
+
+-- ---- the parts of a result are what they are read as
+
+-- an entry behind the word that announces it
+abbrev pub IsEntrySpelled : ListEntry → Type 0
+IsEntrySpelled e = Spells entry_form e (spell_word e.fileid ++ (spell_opaque e.name ++ spell_word e.cookie))
+
+-- the five words of STATFS
+pub record AreWords (a b c d e : ℕ) : Type 0 where
+  pub first : a < 2 ^ 32
+  pub second : b < 2 ^ 32
+  pub third : c < 2 ^ 32
+  pub fourth : d < 2 ^ 32
+  pub fifth : e < 2 ^ 32
+
+abbrev pub AreSpelled : NfsResult → Type 0
+AreSpelled Nothing = Unit {0}
+AreSpelled (Refused stat) = stat.0 < 2 ^ 32
+AreSpelled Done = Unit {0}
+AreSpelled (Attr a) = Spells fattr_form a (fattr_text a)
+AreSpelled (Node handle a) = (length handle ≡ 32) × Spells fattr_form a (fattr_text a)
+AreSpelled (Path text) = Unit {0}
+AreSpelled (Content a bytes) = Spells fattr_form a (fattr_text a)
+AreSpelled (Entries entries eof) = All IsEntrySpelled entries
+AreSpelled (Space tsize bsize blocks bfree bavail) = AreWords tsize bsize blocks bfree bavail

@@ -6,4 +6,5 @@ mod reading;
 mod writing;
 
 pub use error::ResErr;
+pub use reading::read_result;
 pub use writing::write_result;

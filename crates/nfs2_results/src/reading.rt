@@ -1,5 +1,5 @@
 //! Reads the results of calls.
-ghost use Rattle.std.specs.Prelude.{◌≡◌, ◌≤◌, [], length};
+ghost use Rattle.std.specs.Prelude.{◌≡◌, ◌≤◌, ◌==◌, ◌||◌, [], length};
 ghost use Rattle.xdr_core.specs.Grammar.{Gives, reads, reads_all};
 ghost use Rattle.nfs2_results.specs.Forms.{fattr_form, entry_form, entries_form, attr_arm, node_arm, path_arm, content_arm, entries_arm, space_arm, arm_form, status_form, result_form};
 ghost use Rattle.nfs2_results.specs.Reading.{GivesAt, GivesWhole, IsResultOf};
@@ -97,4 +97,81 @@ fn entry_at(alloc: Global, r: &mut Reader<'_>) -> Result<ListEntry, ResErr>
         name: Blob::from_slice(alloc, name)?,
         cookie,
     })
+}
+
+/// The entries up to the word that ends them.
+fn entries_at(alloc: Global, r: &mut Reader<'_>) -> Result<Vec<ListEntry>, ResErr>
+    ensures { GivesAt (λ v. v.items) result r.new (reads (entries_form (length r.old.rest) []) r.old) }
+{
+    let mut entries = Vec::new(alloc);
+    while r.boolean()? {
+        let entry = entry_at(alloc, r)?;
+        entries.push(entry)?;
+    }
+    Ok(entries)
+}
+
+#[tactic(auto, using(xdr_core::proofs::Sequence::reads_then), unfolding(crate::specs::Forms::entries_arm))]
+fn listing_at(alloc: Global, r: &mut Reader<'_>) -> Result<NfsResult, ResErr>
+    ensures { GivesAt (λ x. x) result r.new (reads (entries_arm (length r.old.rest)) r.old) }
+{
+    let entries = entries_at(alloc, r)?;
+    let eof = r.boolean()?;
+    Ok(NfsResult::Entries {
+        entries: Listing::new(entries),
+        eof,
+    })
+}
+
+/// What follows the status OK.
+fn arm_at(alloc: Global, proc: u32, r: &mut Reader<'_>) -> Result<NfsResult, ResErr>
+    ensures { GivesAt (λ x. x) result r.new (reads (arm_form (length r.old.rest) proc) r.old) }
+{
+    match proc {
+        1 | 2 | 8 => attr_at(r),
+        4 | 9 | 14 => node_at(r),
+        5 => path_at(alloc, r),
+        6 => content_at(alloc, r),
+        16 => listing_at(alloc, r),
+        17 => space_at(r),
+        _ => Ok(NfsResult::Done),
+    }
+}
+
+/// Whether the procedure has no result.
+fn is_bare(proc: u32) -> bool
+    ensures { result ≡ (proc == 0 || proc == 3 || proc == 7) }
+{
+    proc == 0 || proc == 3 || proc == 7
+}
+
+fn result_at(alloc: Global, proc: u32, r: &mut Reader<'_>) -> Result<NfsResult, ResErr>
+    ensures { GivesAt (λ x. x) result r.new (reads (result_form (length r.old.rest) proc) r.old) }
+{
+    if is_bare(proc) {
+        return Ok(NfsResult::Nothing);
+    }
+    let status = r.word()?;
+    if status != 0 {
+        return Ok(NfsResult::Refused(Stat(status)));
+    }
+    arm_at(alloc, proc, r)
+}
+
+#[tactic(auto, unfolding(xdr_core::specs::Grammar::reads_all))]
+fn whole_result(alloc: Global, proc: u32, bytes: &[u8]) -> Result<NfsResult, ResErr>
+    ensures { GivesWhole result (reads_all (result_form (length bytes.now) proc) bytes.now) }
+{
+    let mut r = Reader::new(bytes);
+    let found = result_at(alloc, proc, &mut r)?;
+    r.end()?;
+    Ok(found)
+}
+
+/// The result of a procedure that the bytes spell, all of them, or the first wrong item (RFC 1094, 2.2).
+pub fn read_result(alloc: Global, proc: u32, bytes: &[u8]) -> Result<NfsResult, ResErr>
+    requires { proc ≤ 17 }
+    ensures { IsResultOf proc bytes.now result }
+{
+    whole_result(alloc, proc, bytes)
 }

@@ -1,8 +1,13 @@
 -- What a link's calls do to its inbox and to what was sent, where it tells them.
-use Rattle.std.specs.Prelude.{◌≡◌, ℕ, List, [], ◌∷◌, ◌++◌, Option, None, Some, IfSome, Result, Ok, Err}
+use Rattle.std.specs.Prelude.{◌≡◌, ◌≤◌, ℕ, List, [], ◌∷◌, ◌++◌, Option, None, Some, IfSome, Result, Ok, Err, length}
 use Rattle.std.specs.Option.{option_map}
+use Rattle.outside.specs.declared.datagram.TheConstants.{DATAGRAM_MAX}
 use Rattle.outside.specs.declared.datagram.Datagram.{Datagram}
 use Rattle.outside.specs.declared.link.LinkErr.{LinkErr}
+
+-- a link carries at most 65,536 bytes at once
+abbrev pub FitsALink : Datagram → Type 0
+FitsALink datagram = length datagram.bytes ≤ DATAGRAM_MAX
 
 -- a datagram is the first of the inbox and is taken off it, and none comes only where the inbox is empty
 abbrev pub Receives : Option (List Datagram) → Option (List Datagram) → Result (Option Datagram) LinkErr → Type 0

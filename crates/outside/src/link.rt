@@ -2,7 +2,7 @@
 
 ghost use Rattle.std.specs.Prelude.{◌≡◌, ◌<◌, ◌≤◌, ℕ, List, Option, IfOk, IfSome, length};
 ghost use Rattle.outside.specs.Causes.{HasCause, LinkHasCause};
-ghost use Rattle.outside.specs.Datagrams.{Receives, Sends};
+ghost use Rattle.outside.specs.Datagrams.{FitsALink, Receives, Sends};
 ghost use Rattle.outside.specs.Told.{TellsAlike};
 ghost use Rattle.outside.specs.declared.datagram.Datagram.{Datagram};
 
@@ -37,7 +37,7 @@ pub trait Link {
 
     /// Hands out the next datagram, or none where the turn is quiet.
     fn recv(&mut self) -> Result<Option<Datagram>, LinkErr>
-        ensures size { IfOk result (λ got. IfSome got (λ datagram. length datagram.bytes ≤ DATAGRAM_MAX)) }
+        ensures size { IfOk result (λ got. IfSome got FitsALink) }
         ensures inbox { Receives (inbox self.old) (inbox self.new) result }
         ensures tells { TellsAlike (inbox self.old) (inbox self.new) }
         ensures sent { sent self.new ≡ sent self.old }

@@ -1,9 +1,12 @@
 //! A link over memory.
 
-ghost use Rattle.std.specs.Prelude.{◌≡◌, ◌≤◌, List, [], Some, All, length};
+ghost use Rattle.std.specs.Prelude.{◌≡◌, ◌≤◌, List, [], Some, All, IfOk, IfSome, IsErrOf};
+ghost use Rattle.outside.specs.Causes.{LinkHasCause};
+ghost use Rattle.outside.specs.Datagrams.{FitsALink, Receives};
+ghost use Rattle.outside.specs.Told.{TellsAlike};
 ghost use Rattle.outside.specs.declared.datagram.Datagram.{Datagram};
 
-use crate::datagram::{DATAGRAM_MAX, Datagram, Peer};
+use crate::datagram::{Datagram, Peer};
 use crate::link::{Link, LinkErr};
 use crate::schedule::Schedule;
 use crate::source::Failed;
@@ -17,13 +20,13 @@ pub struct MemLink {
     inbox: VecDeque<Datagram>,
     sent: Vec<Datagram>,
     schedule: Schedule,
-    ghost sizes: { All (λ datagram. length datagram.bytes ≤ 65536) inbox.items },
+    ghost sizes: { All FitsALink inbox.items },
 }
 
 impl MemLink {
     /// `fails` lists the numbers, from 1, of the calls that fail. It takes no memory.
     pub fn new(alloc: Global, inbox: Vec<Datagram>, fails: Vec<u64>) -> MemLink
-        requires { All (λ datagram. length datagram.bytes ≤ DATAGRAM_MAX) inbox.items }
+        requires { All FitsALink inbox.items }
         ensures inbox { ⟦<MemLink as Link>⟧.inbox result ≡ Some inbox.items }
         ensures sent { ⟦<MemLink as Link>⟧.sent result ≡ Some [] }
         ensures faults { ⟦<MemLink as Link>⟧.faults result ≡ 0 }
@@ -57,7 +60,14 @@ impl Link for MemLink {
         if port == 0 { Ok(1) } else { Ok(port) }
     }
 
-    fn recv(&mut self) -> Result<Option<Datagram>, LinkErr> {
+    fn recv(&mut self) -> Result<Option<Datagram>, LinkErr>
+        ensures size { IfOk result (λ got. IfSome got FitsALink) }
+        ensures inbox { Receives (Some self.old.inbox.items) (Some self.new.inbox.items) result }
+        ensures tells { TellsAlike (Some self.old.inbox.items) (Some self.new.inbox.items) }
+        ensures sent { self.new.sent ≡ self.old.sent }
+        ensures cause { LinkHasCause self.old.schedule.faults self.new.schedule.faults result }
+        ensures memory { ¬ (IsErrOf result LinkErr.NoMemory) }
+    {
         if self.schedule.fails_now() {
             return Err(LinkErr::Failed);
         }

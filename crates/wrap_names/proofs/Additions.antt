@@ -28,19 +28,20 @@ use Rattle.abs_model.proofs.Facts.{no_row}
 use Rattle.conf_map.specs.Fresh as fresh
 use Rattle.conf_map.specs.Stands.{handle_at, SameAttr, Leads, SameNames}
 use Rattle.conf_map.specs.Moves.{IsAt, SetsName, MakesNode}
-use Rattle.conf_map.specs.Tables.{index_in, IsUnshared}
+use Rattle.conf_map.specs.Tables.{index_in, touched, IsUnshared}
 use Rattle.conf_map.proofs.Agrees.{used_agrees, nodes_free}
 use Rattle.conf_map.proofs.ArrayFacts.{lt_of, within_at}
 use Rattle.conf_map.proofs.Frames.{entry_at-some, handle_of_row, handle_node}
 use Rattle.conf_map.proofs.InStep.{slice_get-set_same, slice_get-set_other}
 use Rattle.conf_map.proofs.LiveRows.{at_handle, same_attr}
 use Rattle.conf_map.proofs.Made.{null_handle, stands_made}
+use Rattle.conf_map.proofs.PlacedRows.{row_of-placed_same, row_of-placed_other}
 use Rattle.conf_map.proofs.RowFacts.{and_left, and_right}
 use Rattle.conf_map.proofs.Targets.{dir_map, lacks_agrees}
 use Rattle.wrap_names.specs.declared.place.Place.{Place}
 use Rattle.wrap_names.specs.declared.make.NewNode.{NewNode}
 use Rattle.wrap_names.specs.Places.{CanAdd}
-use Rattle.wrap_names.specs.News.{IsMade, IsAdded, AddsRow, written_row, empty_dir, with_dir}
+use Rattle.wrap_names.specs.News.{IsMade, IsAdded, AddsRow, empty_dir, with_dir}
 
 -- ENTRIES AND ROWS
 
@@ -67,34 +68,6 @@ names_named (NamesOf k) m name h n same is =
     ap (λ c. with_names (λ k. insert k name h) (record n { content = c })) same
     ∙ ap (λ k. let new : Node = record n { content = NamesOf (insert k name h) } in new) e
     ∙ sym (ap (λ c. with_names (λ _. insert m name h) (record n { content = c })) same)
-
--- byte strings that differ fail the test
-bytes_differ : (a b : List ℕ) → a ≢ b → bytes_eq a b ≡ false
-bytes_differ a b ne = elim (bytes_eq a b) as (λ x. bytes_eq a b ≡ x → x ≡ false) [ true ↦ λ t. absurd (ne ((bytes_eq-Decides a b).0 t)) | false ↦ λ _. refl ] refl
-
--- a row that is placed is the one that its name finds
-row_of-placed_same : (row : NameRow) (rows : List NameRow) → row_of row.name rows ≡ None → row_of row.name (placed row rows) ≡ Some row
-row_of-placed_same row [] none = ap (λ b. cond b (Some row) None) ((bytes_eq-Decides row.name row.name).1 refl)
-row_of-placed_same row (r ∷ rs) none =
-    let k = parts (bytes_eq r.name row.name) none in
-    by_order (name_lt row.name r.name) k.0 (row_of-placed_same row rs k.1)
-  where
-    parts : (b : Bool) → cond b (Some r) (row_of row.name rs) ≡ None → (b ≡ false) × (row_of row.name rs ≡ None)
-    parts true none = absurd (some_none refl none)
-    parts false none = (refl, none)
-
-    by_order : (lt : Bool) → bytes_eq r.name row.name ≡ false → row_of row.name (placed row rs) ≡ Some row → row_of row.name (if lt then row ∷ r ∷ rs else r ∷ placed row rs) ≡ Some row
-    by_order true other rest = ap (λ b. cond b (Some row) (row_of row.name (r ∷ rs))) ((bytes_eq-Decides row.name row.name).1 refl)
-    by_order false other rest = ap (λ b. cond b (Some r) (row_of row.name (placed row rs))) other ∙ rest
-
--- and other names find what they found
-row_of-placed_other : (row : NameRow) (rows : List NameRow) (x : List ℕ) → x ≢ row.name → row_of x (placed row rows) ≡ row_of x rows
-row_of-placed_other row [] x ne = ap (λ b. cond b (Some row) None) (bytes_differ row.name x (λ e. ne (sym e)))
-row_of-placed_other row (r ∷ rs) x ne = by_order (name_lt row.name r.name) (row_of-placed_other row rs x ne)
-  where
-    by_order : (lt : Bool) → row_of x (placed row rs) ≡ row_of x rs → row_of x (if lt then row ∷ r ∷ rs else r ∷ placed row rs) ≡ row_of x (r ∷ rs)
-    by_order true rest = ap (λ b. cond b (Some row) (row_of x (r ∷ rs))) (bytes_differ row.name x (λ e. ne (sym e)))
-    by_order false rest = ap (λ o. cond (bytes_eq r.name x) (Some r) o) rest
 
 -- WHAT A NEW DIRECTORY ASKS
 
@@ -205,7 +178,7 @@ module _ (s : Server) (table : ConfTable) (A : List Entry) (name : List ℕ) (p 
       to_row = row_to name i ((entry_at A i).generation + 1)
 
       abbrev mid : List ConfEntry
-      mid = slice_set table.rows.items d (written_row time rd)
+      mid = slice_set table.rows.items d (touched time rd)
 
       rows : table'.rows.items ≡ slice_set mid i row
       rows = adds.rows rd at_dir.2.is_row
@@ -218,13 +191,13 @@ module _ (s : Server) (table : ConfTable) (A : List Entry) (name : List ℕ) (p 
       apart same = some_none c.live (ap (handle_at table.rows.items) same ∙ was_free)
 
       row_here : slice_get table'.rows.items i ≡ Some row
-      row_here = ap (λ l. slice_get l i) rows ∙ slice_get-set_same mid i row old_row.0 (slice_get-set_other table.rows.items d i (written_row time rd) (λ e. apart (sym e)) ∙ old_row.1)
+      row_here = ap (λ l. slice_get l i) rows ∙ slice_get-set_same mid i row old_row.0 (slice_get-set_other table.rows.items d i (touched time rd) (λ e. apart (sym e)) ∙ old_row.1)
 
-      row_dir : slice_get table'.rows.items d ≡ Some (written_row time rd)
-      row_dir = ap (λ l. slice_get l d) rows ∙ slice_get-set_other mid i d row apart ∙ slice_get-set_same table.rows.items d (written_row time rd) rd at_dir.2.is_row
+      row_dir : slice_get table'.rows.items d ≡ Some (touched time rd)
+      row_dir = ap (λ l. slice_get l d) rows ∙ slice_get-set_other mid i d row apart ∙ slice_get-set_same table.rows.items d (touched time rd) rd at_dir.2.is_row
 
       row_other : (j : ℕ) → j ≢ d → j ≢ i → slice_get table'.rows.items j ≡ slice_get table.rows.items j
-      row_other j not_d not_i = ap (λ l. slice_get l j) rows ∙ slice_get-set_other mid i j row not_i ∙ slice_get-set_other table.rows.items d j (written_row time rd) not_d
+      row_other j not_d not_i = ap (λ l. slice_get l j) rows ∙ slice_get-set_other mid i j row not_i ∙ slice_get-set_other table.rows.items d j (touched time rd) not_d
 
       entry_here : slice_get A' i ≡ Some ei
       entry_here = slice_get-set_same (set A d ed) i ei (entry_at A i) (slice_get-set_other A d i ed (λ e. apart (sym e)) ∙ was_entry)
@@ -247,7 +220,7 @@ module _ (s : Server) (table : ConfTable) (A : List Entry) (name : List ℕ) (p 
           record {
             handle = dh;
             row = rd;
-            row' = written_row time rd;
+            row' = touched time rd;
             node = nd;
             generation = e.generation;
             attr = attr_of e;
@@ -276,7 +249,7 @@ module _ (s : Server) (table : ConfTable) (A : List Entry) (name : List ℕ) (p 
       handle_other : (k : ℕ) → k ≢ i → handle_at table'.rows.items k ≡ handle_at table.rows.items k
       handle_other k not_i = elim (one_or_not k d) as (λ _. handle_at table'.rows.items k ≡ handle_at table.rows.items k) [
         | inl e ↦ subst (λ k. handle_at table'.rows.items k ≡ handle_at table.rows.items k) (sym e)
-            (handle_of_row table'.rows.items d (written_row time rd) row_dir ∙ sym (handle_of_row table.rows.items d rd at_dir.2.is_row))
+            (handle_of_row table'.rows.items d (touched time rd) row_dir ∙ sym (handle_of_row table.rows.items d rd at_dir.2.is_row))
         | inr not_d ↦ ap (option_and_then (λ (r : ConfEntry). r.handle)) (row_other k not_d not_i)
       ]
 
@@ -327,7 +300,7 @@ module _ (s : Server) (table : ConfTable) (A : List Entry) (name : List ℕ) (p 
         root = m.root;
         node_now = m.node_now;
         nodes = m.others;
-        rows = record { size = ap length rows ∙ length-set mid i row ∙ length-set table.rows.items d (written_row time rd); others = row_other };
+        rows = record { size = ap length rows ∙ length-set mid i row ∙ length-set table.rows.items d (touched time rd); others = row_other };
         row_now = row_here;
         row_handle = handle;
         row_parent = parent;

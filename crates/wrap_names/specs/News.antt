@@ -15,7 +15,7 @@ use Rattle.abs_model.specs.Array.{entry_at, changed}
 use Rattle.abs_model.specs.Machine.{to_be, row_to, made}
 use Rattle.abs_model.specs.Machine as machine
 use Rattle.conf_map.specs.Stands.{Stands}
-use Rattle.conf_map.specs.Tables.{IsInStep, IsLive}
+use Rattle.conf_map.specs.Tables.{IsInStep, IsLive, touched}
 use Rattle.conf_map.specs.declared.table.Located.{Located}
 use Rattle.wrap_names.specs.declared.place.Place.{Place}
 use Rattle.wrap_names.specs.declared.make.NewNode.{NewNode}
@@ -33,13 +33,9 @@ pub record IsMade (t : Tree) (dir name : List ℕ) (mode uid gid : ℕ) (new : N
   pub dir_now : (n : Node) → node_at t dir ≡ Some n → node_at t' dir ≡ Some (with_names (λ m. insert m name new.handle) n)
   pub others : (q : List ℕ) → q ≢ new.handle → q ≢ dir → node_at t' q ≡ node_at t q
 
--- the row of an object that was written at a time
-abbrev pub written_row : Time → ConfEntry → ConfEntry
-written_row t r = record r { mtime = t; ctime = t }
-
 -- one row is that of an object that was written, and one is new
 pub record AddsRow (old new : ConfTable) (d i : ℕ) (row : ConfEntry) (t : Time) : Type 0 where
-  pub rows : (r : ConfEntry) → slice_get old.rows.items d ≡ Some r → new.rows.items ≡ slice_set (slice_set old.rows.items d (written_row t r)) i row
+  pub rows : (r : ConfEntry) → slice_get old.rows.items d ≡ Some r → new.rows.items ≡ slice_set (slice_set old.rows.items d (touched t r)) i row
   pub in_step : IsInStep old → IsInStep new
 
 -- a directory is written, and an empty directory takes an index

@@ -4,7 +4,6 @@ ghost use Rattle.std.specs.Prelude.{◌≡◌, ◌<◌, ◌^◌, ◌-◌, ◌+�
 ghost use Rattle.nfs2_types.specs.Names.{is_name};
 ghost use Rattle.server_trait.specs.Tree.{Tree};
 ghost use Rattle.server_trait.specs.Step.{LacksName};
-ghost use Rattle.server_trait.specs.declared.bench.ConfEntry.{ConfEntry};
 ghost use Rattle.abs_model.specs.declared.entry.Entry.{Entry};
 ghost use Rattle.abs_model.specs.Objects.{new_attr};
 ghost use Rattle.abs_model.specs.Objects as objects;
@@ -12,10 +11,10 @@ ghost use Rattle.conf_map.specs.Fresh.{HasRoom};
 ghost use Rattle.conf_map.specs.Notice.{Watched};
 ghost use Rattle.conf_map.specs.Tables.{IsUnshared};
 ghost use Rattle.wrap_names.specs.Places.{CanAdd};
-ghost use Rattle.wrap_names.specs.News.{IsMade, IsAdded, AddsRow, written_row};
+ghost use Rattle.wrap_names.specs.News.{IsMade, IsAdded, AddsRow};
 
 use crate::place::Place;
-use conf_map::{Located, attr_of, bind_row, broken, make_dir};
+use conf_map::{Located, attr_of, bind_row, broken, make_dir, touch_row};
 use nfs2_types::{Cred, Handle, NoMemory, Sattr, SetTime, Time};
 use server_trait::{ConfEntry, ConfTable, FileServer, Srv, WrapErr};
 
@@ -65,21 +64,6 @@ fn time_given(given: SetTime, time: Time) -> Time
     }
 }
 
-/// Sets the times of a row whose object is written.
-fn set_written(table: &mut ConfTable, index: u32, time: Time)
-    requires { index < length table.old.rows.items }
-    ensures rows { (r : ConfEntry) → slice_get table.old.rows.items index ≡ Some r →
-        table.new.rows.items ≡ slice_set table.old.rows.items index (written_row time r) }
-    ensures by_handle { table.new.by_handle ≡ table.old.by_handle }
-{
-    let row = table.rows[index as usize];
-    table.rows[index as usize] = ConfEntry {
-        mtime: time,
-        ctime: time,
-        ..row
-    };
-}
-
 /// Puts in the row of a new object, whose directory is written.
 fn add_row(
     table: &mut ConfTable,
@@ -93,7 +77,7 @@ fn add_row(
     requires unshared { IsUnshared table.old.rows.items index row.handle }
     ensures added { OnOk result (AddsRow table.old table.new dir index row time) }
 {
-    set_written(table, dir, time);
+    touch_row(table, dir, time);
     bind_row(table, index, row)?;
     Ok(())
 }

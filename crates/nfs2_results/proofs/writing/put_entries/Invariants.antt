@@ -1,6 +1,10 @@
-use Rattle.std.proofs.Common.{◌≡◌, ◌++◌, drop}
-use Rattle.nfs2_results.specs.Spelling.{entries_text}
+use Rattle.std.proofs.Common.{◌≡◌, ◌++◌, ℕ, ◌<◌, drop, get_or}
+use Rattle.nfs2_types.specs.declared.results.ListEntry.{ListEntry}
+use Rattle.nfs2_results.specs.Spelling.{entries_text, IsEntrySpelled}
 use Rattle.nfs2_results.proofs.writing.put_entries.Given as goal
 
 abbrev pub invariant-loop-e : goal.invariant-loop-e
-invariant-loop-e l = l.w ++ entries_text (drop l.e-index l.entries) ≡ l.initial.w ++ entries_text l.entries
+invariant-loop-e l = record {
+  text : l.w ++ entries_text (drop l.e-index l.entries) ≡ l.initial.w ++ entries_text l.entries;
+  spelled : (k : ℕ) (d : ListEntry) → k < l.e-index → IsEntrySpelled (get_or l.entries k d);
+}
