@@ -9,7 +9,7 @@ use Rattle.server_trait.specs.declared.bench.ConfTable.{ConfTable}
 use Rattle.abs_model.specs.declared.entry.Entry.{Entry}
 use Rattle.nfs2_types.specs.Handle.{handle_bytes}
 use Rattle.abs_model.specs.Array as array
-use Rattle.conf_map.specs.Stands.{handle_at, StandValid, StandsValid}
+use Rattle.conf_map.specs.Stands.{handle_at, StandValid, StandsValid, AreWithin}
 use Rattle.conf_map.proofs.Frames.{handle_node, handle_of_row, entry_at-some}
 use Rattle.conf_map.proofs.LiveRows.{at_handle}
 
@@ -41,8 +41,8 @@ oid_read s table A i h r k is =
     ap (λ g. handle_bytes (record { index = i; generation = g })) ((k.stands.each i r e.2 is.is_row e.3.is_entry).generation ∙ sym (ap (λ (e : Entry). e.generation) (entry_at-some A i e.2 e.3.is_entry)))
 
 -- they stand for a valid array
-pub stand_valid : (limits : Limits) (s : Option Tree) (table : ConfTable) (A : List Entry) → StandsValid limits s table A → StandValid s table A
-stand_valid limits s table A k = record { limits = limits; within = k.within; valid = k.valid; stands = k.stands }
+pub stand_valid : (limits : Limits) (s : Option Tree) (table : ConfTable) (A : List Entry) → AreWithin limits → StandsValid limits s table A → StandValid s table A
+stand_valid limits s table A within k = record { limits = limits; within = within; valid = k.valid; stands = k.stands }
 
-pub some_valid : (limits : Limits) (s : Option Tree) (table : ConfTable) → ((A : List Entry) × StandsValid limits s table A) → (A : List Entry) × StandValid s table A
-some_valid limits s table k = (k.0, stand_valid limits s table k.0 k.1)
+pub some_valid : (limits : Limits) (s : Option Tree) (table : ConfTable) → AreWithin limits → ((A : List Entry) × StandsValid limits s table A) → (A : List Entry) × StandValid s table A
+some_valid limits s table within k = (k.0, stand_valid limits s table k.0 within k.1)

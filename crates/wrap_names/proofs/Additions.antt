@@ -1,6 +1,6 @@
 -- A new directory: what it asks of server and table, and that they stand for the array which has it.
-use Rattle.std.proofs.Common.{◌≡◌, ◌≢◌, inl, inr, ℕ, ◌+◌, ◌-◌, ◌^◌, ◌<◌, arith, Bool, true, false, List, [], ◌∷◌, length, set, Option, Some, None, IsSomeAnd, slice_get, slice_set, get_or, Fits, w32, refl, sym, ap, ◌∙◌, subst}
-use Rattle.std.specs.Prelude.{nat_lt, bytes_eq, cond, if◌then◌else◌}
+use Rattle.std.proofs.Common.{◌≡◌, ◌≢◌, inl, inr, ℕ, ◌+◌, ◌-◌, ◌^◌, ◌<◌, arith, true, false, List, [], length, set, Option, Some, None, IsSomeAnd, slice_get, slice_set, get_or, Fits, w32, refl, sym, ap, ◌∙◌, subst}
+use Rattle.std.specs.Prelude.{nat_lt}
 use Rattle.std.specs.Ordering.{nat_cmp}
 use Rattle.std.specs.Cmp.Lexicographic.{slice_cmp}
 use Rattle.std.specs.FinMap.{insert, len, get-empty}
@@ -8,7 +8,6 @@ use Rattle.std.specs.Option.{option_and_then}
 use Rattle.std.proofs.lemmas.Option.{slice_get_read, slice_get_within}
 use Rattle.std.proofs.lemmas.List.Quantifiers.{position-Some}
 use Rattle.std.proofs.lemmas.List.{length-set}
-use Rattle.std.proofs.lemmas.Slice.Eq.{bytes_eq-Decides}
 use Rattle.nfs2_types.specs.declared.Time.{Time}
 use Rattle.server_trait.specs.Tree.{Tree, Server, Node, Names, Content, BytesOf, TextOf, NamesOf, node_at, names_at, names_in, with_names, used}
 use Rattle.server_trait.specs.Step.{LacksName}
@@ -20,7 +19,7 @@ use Rattle.abs_model.specs.declared.entry.NameRow.{NameRow}
 use Rattle.abs_model.specs.declared.entry.Object.{Object}
 use Rattle.abs_model.specs.declared.entry.Object.TheVariants.{Null, File, Dir, Link}
 use Rattle.abs_model.specs.declared.entry.Entry.{Entry}
-use Rattle.abs_model.specs.Objects.{is_null, is_dir, names_of, attr_of, row_of, placed, name_lt, written_at}
+use Rattle.abs_model.specs.Objects.{is_null, is_dir, names_of, attr_of, row_of, placed, written_at}
 use Rattle.abs_model.specs.Array.{entry_at, null_entry, can_take}
 use Rattle.abs_model.specs.Machine.{row_to, made}
 use Rattle.abs_model.specs.Machine as machine

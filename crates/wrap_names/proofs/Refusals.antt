@@ -27,16 +27,13 @@ use Rattle.conf_map.specs.Stands.{StandsValid, StandValid, AreWithin}
 use Rattle.conf_map.specs.Tables.{is_free_row}
 use Rattle.conf_map.specs.Found.{IsDirCall, DirFound, NameFound}
 use Rattle.conf_map.specs.declared.table.Located.{Located}
+use Rattle.conf_map.proofs.Shows.{stand_valid}
 use Rattle.conf_map.proofs.Seen.{free_agrees}
 use Rattle.wrap_names.specs.declared.place.Place.{Place}
 use Rattle.wrap_names.specs.Places.{refused, IsIndex, IsPlace}
 use Rattle.wrap_names.specs.News.{added, with_dir}
 
 -- WHAT STANDS
-
--- limits that are known are limits of the service
-pub stand_valid : (limits : Limits) (s : Option Tree) (table : ConfTable) (A : List Entry) → AreWithin limits → StandsValid limits s table A → StandValid s table A
-stand_valid limits s table A within k = record { limits = limits; within = within; valid = k.valid; stands = k.stands }
 
 -- a call that changed nothing
 pub stands_still : (limits : Limits) (s s' : Option Tree) (table : ConfTable) (A : List Entry) → s' ≡ s → StandsValid limits s table A → StandsValid limits s' table A

@@ -1,10 +1,8 @@
 -- Rows that are set, and a map that goes with them.
-use Rattle.std.proofs.Common.{◌≡◌, inl, inr, ℕ, ◌<◌, List, length, Some, slice_get, slice_set, get_or, sym, ap, ◌∙◌, subst}
-use Rattle.std.specs.Option.{option_and_then}
+use Rattle.std.proofs.Common.{◌≡◌, ℕ, ◌<◌, length, Some, slice_get, slice_set, get_or, sym, ap, ◌∙◌, subst}
 use Rattle.std.proofs.lemmas.Option.{slice_get-get_or}
 use Rattle.std.proofs.lemmas.List.{length-set}
 use Rattle.nfs2_types.specs.declared.Time.{Time}
-use Rattle.server_trait.proofs.TreeLaws.{one_or_not}
 use Rattle.server_trait.specs.declared.bench.ConfEntry.{ConfEntry}
 use Rattle.server_trait.specs.declared.bench.ConfTable.{ConfTable}
 use Rattle.conf_map.specs.Stands.{handle_at}

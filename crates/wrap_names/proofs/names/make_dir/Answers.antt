@@ -1,7 +1,8 @@
 use Rattle.std.proofs.Common.{◌∙◌, ap, sym, subst}
 use Rattle.std.proofs.Common.{◌++◌}
 use Rattle.conf_map.specs.Notice.{NoticedAll}
-use Rattle.wrap_names.proofs.Refusals.{stand_valid, stands_still}
+use Rattle.wrap_names.proofs.Refusals.{stands_still}
+use Rattle.conf_map.proofs.Shows.{stand_valid}
 use Rattle.wrap_names.proofs.Makings.{refusal_answers, refusal_stands, refusal_told, refusal_noticed, making_told, making_again, making_stands, making_answers}
 use Rattle.wrap_names.proofs.names.make_dir.Goals as goal
 
