@@ -31,7 +31,7 @@ struct Place {
 }
 
 /// Makes a directory under a new name, where the server has room for it.
-fn make_dir(server: &mut Srv, dir: &Handle, name: &[u8]) -> Result<Handle, WrapErr>
+pub fn make_dir(server: &mut Srv, dir: &Handle, name: &[u8]) -> Result<Handle, WrapErr>
     requires lacks { IsSomeAnd (state server.old).tree (λ t. LacksName t dir.now name.now) }
     requires name { is_name name.now ≡ true }
     requires room { HasRoom (state server.old) }

@@ -1,0 +1,48 @@
+-- What a procedure finds on its way, said of the array (RFC 1094, 2.2).
+use Rattle.std.specs.Prelude.{◌≡◌, ℕ, ◌*◌, if◌then◌else◌, List, Bool, true, false, Option, Some, None, Result, Ok, Err}
+use Rattle.nfs2_types.specs.declared.fattr.Kind.{Kind}
+use Rattle.nfs2_types.specs.declared.fattr.Kind.TheVariants.{File, Dir, Link}
+use Rattle.nfs2_types.specs.declared.Stat.{Stat}
+use Rattle.nfs2_types.specs.Names.{is_bad}
+use Rattle.server_trait.specs.declared.server.NodeAttr.{NodeAttr}
+use Rattle.server_trait.specs.declared.bench.ConfEntry.{ConfEntry}
+use Rattle.abs_model.specs.declared.entry.Entry.{Entry}
+use Rattle.abs_model.specs.Objects.{is_dir}
+use Rattle.abs_model.specs.Array.{entry_at, live, target, has_name}
+use Rattle.abs_model.specs.Machine.{first_of, in_dir}
+use Rattle.conf_map.specs.declared.table.Located.{Located}
+use Rattle.conf_map.specs.Tables.{IsLive}
+
+-- a node of this kind is a directory
+abbrev pub is_dir_kind : Kind → Bool
+is_dir_kind File = false
+is_dir_kind Dir = true
+is_dir_kind Link = false
+
+-- the bytes that a node uses by its attributes
+abbrev pub bytes_used : NodeAttr → ℕ
+bytes_used a = if is_dir_kind a.kind then 512 * a.size else a.size
+
+-- the handle is that of a directory, and the name is one that may be looked for
+pub record IsDirCall (A : List Entry) (rows : List ConfEntry) (dir name : List ℕ) (d : Located) : Type 0 where
+  pub none : first_of (in_dir A dir name) ≡ None
+  pub is_index : live A dir ≡ Some d.index
+  pub live : IsLive rows d
+  pub is_dir : is_dir (entry_at A d.index) ≡ true
+  pub good : is_bad name ≡ false
+
+-- the directory of a call, or the status of its first refusal
+abbrev pub DirFound : List Entry → List ConfEntry → List ℕ → List ℕ → Result Located Stat → Type 0
+DirFound A rows dir name (Ok d) = IsDirCall A rows dir name d
+DirFound A rows dir name (Err s) = first_of (in_dir A dir name) ≡ Some s
+
+-- a name of a directory leads to a live object
+pub record IsLed (A : List Entry) (rows : List ConfEntry) (d : ℕ) (name : List ℕ) (at : Located) : Type 0 where
+  pub has : has_name A d name ≡ true
+  pub target : target A d name ≡ at.index
+  pub live : IsLive rows at
+
+-- where a name of a directory leads, if it is there
+abbrev pub NameFound : List Entry → List ConfEntry → ℕ → List ℕ → Option Located → Type 0
+NameFound A rows d name None = has_name A d name ≡ false
+NameFound A rows d name (Some at) = IsLed A rows d name at

@@ -1,0 +1,327 @@
+-- A new directory: what it asks of server and table, and that they stand for the array which has it.
+use Rattle.std.proofs.Common.{◌≡◌, ◌≢◌, inl, inr, ℕ, ◌+◌, ◌-◌, ◌^◌, ◌<◌, arith, true, false, List, [], length, set, Option, Some, None, IsSomeAnd, slice_get, slice_set, get_or, Fits, w32, refl, sym, ap, ◌∙◌, subst}
+use Rattle.std.specs.Prelude.{nat_lt}
+use Rattle.std.specs.Ordering.{nat_cmp}
+use Rattle.std.specs.Cmp.Lexicographic.{slice_cmp}
+use Rattle.std.specs.FinMap.{insert, len, get-empty}
+use Rattle.std.specs.Option.{option_and_then}
+use Rattle.std.proofs.lemmas.Option.{slice_get_read, slice_get_within}
+use Rattle.std.proofs.lemmas.List.Quantifiers.{position-Some}
+use Rattle.std.proofs.lemmas.List.{length-set}
+use Rattle.nfs2_types.specs.declared.Time.{Time}
+use Rattle.server_trait.specs.Tree.{Tree, Server, Node, Names, Content, BytesOf, TextOf, NamesOf, node_at, names_at, names_in, with_names, used}
+use Rattle.server_trait.specs.Step.{LacksName}
+use Rattle.server_trait.proofs.TreeLaws.{some_and, is_some_and, some_none, some_same, one_or_not, slice_get-along, names_at-node, get-insert_same, get-insert_other}
+use Rattle.server_trait.specs.declared.bench.ConfEntry.{ConfEntry}
+use Rattle.server_trait.specs.declared.bench.ConfTable.{ConfTable}
+use Rattle.abs_model.specs.declared.entry.Attr.{Attr}
+use Rattle.abs_model.specs.declared.entry.NameRow.{NameRow}
+use Rattle.abs_model.specs.declared.entry.Object.{Object}
+use Rattle.abs_model.specs.declared.entry.Object.TheVariants.{Null, File, Dir, Link}
+use Rattle.abs_model.specs.declared.entry.Entry.{Entry}
+use Rattle.abs_model.specs.Objects.{is_null, is_dir, names_of, attr_of, row_of, placed, written_at}
+use Rattle.abs_model.specs.Array.{entry_at, null_entry, can_take}
+use Rattle.abs_model.specs.Machine.{row_to, made}
+use Rattle.abs_model.specs.Machine as machine
+use Rattle.abs_model.proofs.Facts.{no_row}
+use Rattle.conf_map.specs.Fresh as fresh
+use Rattle.conf_map.specs.Stands.{handle_at, SameAttr, Leads, SameNames}
+use Rattle.conf_map.specs.Moves.{IsAt, SetsName, MakesNode}
+use Rattle.conf_map.specs.Tables.{index_in, touched, IsUnshared}
+use Rattle.conf_map.proofs.Agrees.{used_agrees, nodes_free}
+use Rattle.conf_map.proofs.ArrayFacts.{lt_of, within_at}
+use Rattle.conf_map.proofs.Frames.{entry_at-some, handle_of_row, handle_node}
+use Rattle.conf_map.proofs.InStep.{slice_get-set_same, slice_get-set_other}
+use Rattle.conf_map.proofs.LiveRows.{at_handle, same_attr}
+use Rattle.conf_map.proofs.Made.{null_handle, stands_made}
+use Rattle.conf_map.proofs.PlacedRows.{row_of-placed_same, row_of-placed_other}
+use Rattle.conf_map.proofs.RowFacts.{and_left, and_right}
+use Rattle.conf_map.proofs.Targets.{dir_map, lacks_agrees}
+use Rattle.wrap_names.specs.declared.place.Place.{Place}
+use Rattle.wrap_names.specs.declared.make.NewNode.{NewNode}
+use Rattle.wrap_names.specs.Places.{CanAdd}
+use Rattle.wrap_names.specs.News.{IsMade, IsAdded, AddsRow, empty_dir, with_dir}
+
+-- ENTRIES AND ROWS
+
+-- a null entry's object
+null_object : (o : Object) (g : ℕ) → is_null (record { generation = g; object = o }) ≡ true → o ≡ Null
+null_object Null g is = refl
+null_object (File a b) g is = absurd (let bad : false ≡ true = is in cc)
+null_object (Dir a b) g is = absurd (let bad : false ≡ true = is in cc)
+null_object (Link a b) g is = absurd (let bad : false ≡ true = is in cc)
+
+-- a directory is its attributes and its names
+dir_parts : (g : ℕ) (o : Object) → is_dir (record { generation = g; object = o }) ≡ true → o ≡ Dir (attr_of (record { generation = g; object = o })) (names_of (record { generation = g; object = o }))
+dir_parts g Null is = absurd (let bad : false ≡ true = is in cc)
+dir_parts g (File a b) is = absurd (let bad : false ≡ true = is in cc)
+dir_parts g (Dir a b) is = refl
+dir_parts g (Link a b) is = absurd (let bad : false ≡ true = is in cc)
+
+-- a name in a directory's map, whether the map is known or not
+names_named : (c : Content) (m : Names) (name h : List ℕ) (n : Node) → n.content ≡ c → names_in c ≡ Some m → with_names (λ k. insert k name h) n ≡ with_names (λ _. insert m name h) n
+names_named (BytesOf b) m name h n same is = absurd (some_none is refl)
+names_named (TextOf b) m name h n same is = absurd (some_none is refl)
+names_named (NamesOf k) m name h n same is =
+    let e : k ≡ m = some_same refl is ∙ some_same is refl ∙ some_same refl is in
+    ap (λ c. with_names (λ k. insert k name h) (record n { content = c })) same
+    ∙ ap (λ k. let new : Node = record n { content = NamesOf (insert k name h) } in new) e
+    ∙ sym (ap (λ c. with_names (λ _. insert m name h) (record n { content = c })) same)
+
+-- WHAT A NEW DIRECTORY ASKS
+
+module _ (s : Server) (table : ConfTable) (A : List Entry) (name : List ℕ) (p : Place) (c : CanAdd s table A name p) where
+  abbrev d : ℕ
+  d = p.dir.index
+
+  abbrev i : ℕ
+  i = p.index
+
+  abbrev dh : List ℕ
+  dh = p.dir.handle
+
+  abbrev t : Tree
+  t = c.stands.tree
+
+  abbrev e : Entry
+  e = entry_at A d
+
+  at_dir : (r : ConfEntry) × (n : Node) × IsAt t table A d dh r n e
+  at_dir = let k = at_handle s.tree table A c.stands d dh c.live in (k.0, k.1, subst (IsAt t table A d dh k.0 k.1) (sym (entry_at-some A d k.2 k.3.is_entry)) k.3)
+
+  abbrev rd : ConfEntry
+  rd = at_dir.0
+
+  abbrev nd : Node
+  nd = at_dir.1
+
+  lacks : row_of name (names_of e) ≡ None
+  lacks = no_row name (names_of e) c.lacks
+
+  free_at : (i < length A) × (can_take (get_or A i null_entry) ≡ true) × ((k : ℕ) → k < i → can_take (get_or A k null_entry) ≡ false)
+  free_at = position-Some can_take A i null_entry c.index.is_free
+
+  was_null : is_null (entry_at A i) ≡ true
+  was_null = and_left (is_null (entry_at A i)) (nat_lt (entry_at A i).generation (2 ^ 32 - 1)) free_at.1
+
+  was_entry : slice_get A i ≡ Some (entry_at A i)
+  was_entry = within_at A i free_at.0
+
+  old_row : (r : ConfEntry) × (slice_get table.rows.items i ≡ Some r)
+  old_row = slice_get-along A table.rows.items i (entry_at A i) (sym c.stands.size) was_entry
+
+  same_generation : (r : ConfEntry) → slice_get table.rows.items i ≡ Some r → r.generation ≡ (entry_at A i).generation
+  same_generation r at = (c.stands.each i r (entry_at A i) at was_entry).generation
+
+  -- the server's directory lacks the name
+  pub can_lack : IsSomeAnd s.tree (λ t. LacksName t dh name)
+  can_lack = is_some_and (λ t. LacksName t dh name) c.stands.has_tree ((lacks_agrees s.tree table A c.stands d dh rd nd e at_dir.2 c.is_dir name).1 lacks)
+
+  -- and the server has room for one directory more
+  pub can_hold : fresh.HasRoom s
+  can_hold =
+      let few = nodes_free c.limits s.tree table A c.stands c.valid i c.index.is_free in
+      let same = used_agrees c.limits s.tree table A c.stands c.valid in
+      let nodes = c.room.nodes in
+      let bytes = c.room.bytes in
+      let space = c.index.space in
+      let size = c.valid.size in
+      is_some_and (λ t. fresh.HoldsUpTo s.limits (len t.nodes + 1) (used t + 512)) c.stands.has_tree (omega (arith, few, nodes, size), omega (arith, same, bytes, space))
+
+  pub index_below : i < length table.rows.items
+  index_below = let below = free_at.0 in let size = c.stands.size in omega (arith, below, size)
+
+  pub dir_below : d < length table.rows.items
+  dir_below = slice_get_within table.rows.items d rd at_dir.2.is_row
+
+  -- the generation of the row that is taken can rise
+  pub can_rise : (r : ConfEntry) → r ≡ get_or table.rows.items i r → Fits w32 (r.generation + 1)
+  can_rise r read =
+      let at = slice_get_read table.rows.items (length table.rows.items) i r refl index_below read in
+      let same = same_generation r at in
+      let low = lt_of (entry_at A i).generation (2 ^ 32 - 1) (and_right (is_null (entry_at A i)) (nat_lt (entry_at A i).generation (2 ^ 32 - 1)) free_at.1) in
+      omega (arith, same, low)
+
+  -- THE ADDITION
+
+  module _ (s' : Option Tree) (mode uid gid : ℕ) (new : NewNode)
+      (made_at : (t : Tree) → s.tree ≡ Some t → IsSomeAnd s' (IsMade t dh name mode uid gid new)) where
+    new_tree : (t' : Tree) × (s' ≡ Some t') × IsMade t dh name mode uid gid new t'
+    new_tree = some_and s' (IsMade t dh name mode uid gid new) (made_at t c.stands.has_tree)
+
+    abbrev t' : Tree
+    t' = new_tree.0
+
+    m : IsMade t dh name mode uid gid new t'
+    m = new_tree.2
+
+    -- no row has the new handle
+    pub new_unshared : IsUnshared table.rows.items i (Some new.handle)
+    new_unshared k h is at =
+        let n = handle_node s.tree table A c.stands k h at in
+        absurd (some_none (ap (node_at t) (some_same refl is ∙ some_same is refl ∙ some_same refl is) ∙ n.1) m.new_handle)
+
+    module _ (table' : ConfTable) (time : Time) (attr : Attr) (row r : ConfEntry) (read : r ≡ get_or table.rows.items i r)
+        (generation : row.generation ≡ r.generation + 1) (handle : row.handle ≡ Some new.handle) (parent : row.parent ≡ d)
+        (same : SameAttr attr row (empty_dir new.number mode uid gid)) (adds : AddsRow table table' d i row time) where
+      abbrev A' : List Entry
+      A' = with_dir A p name time attr
+
+      abbrev ed : Entry
+      ed = machine.with_names (placed (row_to name i ((entry_at A i).generation + 1))) time e
+
+      abbrev ei : Entry
+      ei = made (Dir attr []) (entry_at A i)
+
+      abbrev to_row : NameRow
+      to_row = row_to name i ((entry_at A i).generation + 1)
+
+      abbrev mid : List ConfEntry
+      mid = slice_set table.rows.items d (touched time rd)
+
+      rows : table'.rows.items ≡ slice_set mid i row
+      rows = adds.rows rd at_dir.2.is_row
+
+      was_free : handle_at table.rows.items i ≡ None
+      was_free = handle_of_row table.rows.items i old_row.0 old_row.1
+          ∙ null_handle t table.rows.items old_row.0 (entry_at A i).object (null_object (entry_at A i).object (entry_at A i).generation was_null) (c.stands.each i old_row.0 (entry_at A i) old_row.1 was_entry).object
+
+      apart : d ≢ i
+      apart same = some_none c.live (ap (handle_at table.rows.items) same ∙ was_free)
+
+      row_here : slice_get table'.rows.items i ≡ Some row
+      row_here = ap (λ l. slice_get l i) rows ∙ slice_get-set_same mid i row old_row.0 (slice_get-set_other table.rows.items d i (touched time rd) (λ e. apart (sym e)) ∙ old_row.1)
+
+      row_dir : slice_get table'.rows.items d ≡ Some (touched time rd)
+      row_dir = ap (λ l. slice_get l d) rows ∙ slice_get-set_other mid i d row apart ∙ slice_get-set_same table.rows.items d (touched time rd) rd at_dir.2.is_row
+
+      row_other : (j : ℕ) → j ≢ d → j ≢ i → slice_get table'.rows.items j ≡ slice_get table.rows.items j
+      row_other j not_d not_i = ap (λ l. slice_get l j) rows ∙ slice_get-set_other mid i j row not_i ∙ slice_get-set_other table.rows.items d j (touched time rd) not_d
+
+      entry_here : slice_get A' i ≡ Some ei
+      entry_here = slice_get-set_same (set A d ed) i ei (entry_at A i) (slice_get-set_other A d i ed (λ e. apart (sym e)) ∙ was_entry)
+
+      entry_dir : slice_get A' d ≡ Some ed
+      entry_dir = slice_get-set_other (set A d ed) i d ei apart ∙ slice_get-set_same A d ed e at_dir.2.is_entry
+
+      entry_other : (j : ℕ) → j ≢ d → j ≢ i → slice_get A' j ≡ slice_get A j
+      entry_other j not_d not_i = slice_get-set_other (set A d ed) i j ei not_i ∙ slice_get-set_other A d j ed not_d
+
+      names : (k : Names) × (names_at t dh ≡ Some k) × SameNames table.rows.items (names_of e) k
+      names = dir_map s.tree table A c.stands d dh rd nd e at_dir.2 c.is_dir
+
+      is_names : names_in nd.content ≡ Some names.0
+      is_names = sym (names_at-node t dh nd at_dir.2.is_node) ∙ names.1
+
+      sets_name : SetsName t table A d name (Some new.handle) (Some to_row) t' table' A'
+      sets_name =
+          let old = same_attr s.tree table A c.stands d dh rd nd e at_dir.2 in
+          record {
+            handle = dh;
+            row = rd;
+            row' = touched time rd;
+            node = nd;
+            generation = e.generation;
+            attr = attr_of e;
+            attr' = written_at time (attr_of e);
+            names = names_of e;
+            names' = placed to_row (names_of e);
+            node_names = names.0;
+            node_names' = insert names.0 name new.handle;
+            before = subst (λ o. IsAt t table A d dh rd nd (record { generation = e.generation; object = o })) (dir_parts e.generation e.object c.is_dir) at_dir.2;
+            is_dir = is_names;
+            node_now = m.dir_now nd at_dir.2.is_node ∙ ap Some (names_named nd.content names.0 name new.handle nd refl is_names);
+            name_now = get-insert_same names.0 name new.handle;
+            names_now = get-insert_other names.0 name new.handle;
+            row_now = row_dir;
+            same_row = record { generation = refl; handle = refl; number = refl };
+            parent = refl;
+            entry_now = entry_dir;
+            row_to = row_of-placed_same to_row (names_of e) lacks;
+            rows_to = row_of-placed_other to_row (names_of e);
+            times = record { number = old.number; mode = old.mode; uid = old.uid; gid = old.gid; atime = old.atime; mtime = refl; ctime = refl };
+          }
+
+      handle_here : handle_at table'.rows.items i ≡ Some new.handle
+      handle_here = handle_of_row table'.rows.items i row row_here ∙ handle
+
+      handle_other : (k : ℕ) → k ≢ i → handle_at table'.rows.items k ≡ handle_at table.rows.items k
+      handle_other k not_i = elim (one_or_not k d) as (λ _. handle_at table'.rows.items k ≡ handle_at table.rows.items k) [
+        | inl e ↦ subst (λ k. handle_at table'.rows.items k ≡ handle_at table.rows.items k) (sym e)
+            (handle_of_row table'.rows.items d (touched time rd) row_dir ∙ sym (handle_of_row table.rows.items d rd at_dir.2.is_row))
+        | inr not_d ↦ ap (option_and_then (λ (r : ConfEntry). r.handle)) (row_other k not_d not_i)
+      ]
+
+      mapped_here : index_in table' new.handle ≡ Some i
+      mapped_here = (adds.in_step c.stands.placed.by_handle new.handle i).1 handle_here
+
+      mapped_other : (q : List ℕ) → q ≢ new.handle → index_in table' q ≡ index_in table q
+      mapped_other q ne = by_new (index_in table' q) refl
+        where
+          step : (k : ℕ) → (index_in table' q ≡ Some k) → index_in table q ≡ Some k
+          step k is =
+              let at = (adds.in_step c.stands.placed.by_handle q k).0 is in
+              let not_i : k ≢ i = λ e. ne (some_same at (ap (handle_at table'.rows.items) e ∙ handle_here)) in
+              (c.stands.placed.by_handle q k).1 (sym (handle_other k not_i) ∙ at)
+
+          back : (k : ℕ) → index_in table q ≡ Some k → index_in table' q ≡ Some k
+          back k is =
+              let at = (c.stands.placed.by_handle q k).0 is in
+              let not_i : k ≢ i = λ e. some_none at (ap (handle_at table.rows.items) e ∙ was_free) in
+              (adds.in_step c.stands.placed.by_handle q k).1 (handle_other k not_i ∙ at)
+
+          by_old : (o : Option ℕ) → index_in table q ≡ o → index_in table' q ≡ None → o ≡ None
+          by_old None is none = refl
+          by_old (Some k) is none = absurd (some_none (back k is) none)
+
+          by_new : (o : Option ℕ) → index_in table' q ≡ o → index_in table' q ≡ index_in table q
+          by_new (Some k) is = is ∙ sym (step k is)
+          by_new None is = is ∙ sym (by_old (index_in table q) refl is)
+
+      makes : MakesNode t table A d name i t' table' A'
+      unfolding sets_name
+      makes = record {
+        handle = new.handle;
+        node = empty_dir new.number mode uid gid;
+        old_row = old_row.0;
+        row = row;
+        old_entry = entry_at A i;
+        entry = ei;
+        to_row = to_row;
+        in_dir = sets_name;
+        was_new = lacks;
+        to_index = refl;
+        was_row = old_row.1;
+        was_entry = was_entry;
+        was_null = null_object (entry_at A i).object (entry_at A i).generation was_null;
+        new_handle = m.new_handle;
+        new_number = m.new_number;
+        root = m.root;
+        node_now = m.node_now;
+        nodes = m.others;
+        rows = record { size = ap length rows ∙ length-set mid i row ∙ length-set table.rows.items d (touched time rd); others = row_other };
+        row_now = row_here;
+        row_handle = handle;
+        row_parent = parent;
+        row_generation = generation ∙ ap (λ g. g + 1) (same_generation r (slice_get_read table.rows.items (length table.rows.items) i r refl index_below read));
+        by_handle = mapped_here;
+        by_handles = mapped_other;
+        array = record { size = length-set (set A d ed) i ei ∙ length-set A d ed; others = entry_other };
+        entry_now = entry_here;
+        object = record {
+          handle = new.handle;
+          node = empty_dir new.number mode uid gid;
+          is_handle = handle;
+          is_node = m.node_now;
+          attr = same;
+          content = λ x. subst (λ o. Leads table'.rows.items o None) (sym (get-empty (slice_cmp nat_cmp) x)) tt;
+        };
+      }
+
+      -- they stand for the array with the new directory
+      pub dir_added : IsAdded A p name time attr s' table' (record { index = i; handle = new.handle })
+      dir_added = record {
+        stands = stands_made s.tree s' table table' A A' t' d i name c.stands makes new_tree.1;
+        live = handle_here;
+        index = refl;
+      }

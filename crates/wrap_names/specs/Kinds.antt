@@ -1,0 +1,8 @@
+-- The calls that change names (RFC 1094, 2.2).
+use Rattle.std.specs.Prelude.{Bool, true, false}
+use Rattle.nfs2_types.specs.Call.{Call, make_dir}
+
+-- MKDIR
+abbrev pub is_names_call : Call → Bool
+is_names_call (make_dir dir name sattr) = true
+is_names_call _ = false

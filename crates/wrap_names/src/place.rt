@@ -1,0 +1,83 @@
+//! Where a new object goes.
+
+ghost use Rattle.std.specs.Prelude.{◌≡◌, ℕ, List, Result, Ok, Err, true, nat_le, length, IfOk, OnOk};
+ghost use Rattle.abs_model.specs.declared.entry.Entry.{Entry};
+ghost use Rattle.abs_model.specs.Machine.{no_room};
+ghost use Rattle.conf_map.specs.Notice.{Watched};
+ghost use Rattle.conf_map.specs.Stands.{StandsValid, AreWithin};
+ghost use Rattle.wrap_names.specs.Places.{IndexFound, PlaceFound};
+
+use conf_map::{Located, follow, in_dir, lowest_null, used};
+use nfs2_types::{Handle, Limits, Stat, is_dot, stat};
+use server_trait::{ConfTable, FileServer, Srv, WrapErr};
+
+/// A directory that gets a name, and the index of the object to which it will lead.
+#[derive(Clone, Copy, Debug)]
+pub struct Place {
+    pub dir: Located,
+    pub index: u32,
+}
+
+/// Whether one name more would pass the limit of bytes.
+fn is_full(server: &mut Srv, table: &ConfTable, limits: &Limits) -> Result<bool, WrapErr>
+    requires stands { (A : List Entry) × StandsValid limits.now (state server.old).tree table.now A }
+    requires within { AreWithin limits.now }
+    ensures full { IfOk result (λ b. (A : List Entry) →
+        StandsValid limits.now (state server.old).tree table.now A → b ≡ no_room A limits.now 0 512) }
+    ensures same { OnOk result ((state server.new).tree ≡ (state server.old).tree) }
+    ensures watched { Watched (state server.old) (state server.new) result }
+{
+    let bytes = used(server, table)?;
+    Ok(bytes + 512 > limits.t as u64)
+}
+
+/// The index of a new object, or `None` where no index is free or the bytes would pass their limit.
+fn new_index(server: &mut Srv, table: &ConfTable, limits: &Limits) -> Result<Option<u32>, WrapErr>
+    requires stands { (A : List Entry) × StandsValid limits.now (state server.old).tree table.now A }
+    requires within { AreWithin limits.now }
+    ensures found { IfOk result (λ o. (A : List Entry) →
+        StandsValid limits.now (state server.old).tree table.now A → IndexFound A limits.now o) }
+    ensures same { OnOk result ((state server.new).tree ≡ (state server.old).tree) }
+    ensures watched { Watched (state server.old) (state server.new) result }
+{
+    let Some(index) = lowest_null(table) else {
+        return Ok(None);
+    };
+    if is_full(server, table, limits)? {
+        return Ok(None);
+    }
+    Ok(Some(index))
+}
+
+/// The place of a new object, or the status of the first refusal: STALE, NOTDIR, ACCES, EXIST, NOSPC.
+pub fn place_of(
+    server: &mut Srv,
+    table: &ConfTable,
+    limits: &Limits,
+    dir: &Handle,
+    name: &[u8],
+) -> Result<Result<Place, Stat>, WrapErr>
+    requires stands { (A : List Entry) × StandsValid limits.now (state server.old).tree table.now A }
+    requires within { AreWithin limits.now }
+    requires short { nat_le (length name.now) 255 ≡ true }
+    ensures found { IfOk result (λ r. (A : List Entry) →
+        StandsValid limits.now (state server.old).tree table.now A →
+        PlaceFound A limits.now table.now.rows.items dir.now name.now r) }
+    ensures same { OnOk result ((state server.new).tree ≡ (state server.old).tree) }
+    ensures watched { Watched (state server.old) (state server.new) result }
+{
+    let d = match in_dir(server, table, dir, name)? {
+        Ok(d) => d,
+        Err(refused) => return Ok(Err(refused)),
+    };
+    if is_dot(name) {
+        return Ok(Err(stat::EXIST));
+    }
+    if follow(server, table, &d, name)?.is_some() {
+        return Ok(Err(stat::EXIST));
+    }
+    match new_index(server, table, limits)? {
+        Some(index) => Ok(Ok(Place { dir: d, index })),
+        None => Ok(Err(stat::NOSPC)),
+    }
+}

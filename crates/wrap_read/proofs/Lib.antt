@@ -1,0 +1,3 @@
+pub mod ReadAnswers
+pub mod ReadCalls
+pub mod StepLemmas
