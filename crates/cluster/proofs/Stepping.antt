@@ -238,3 +238,15 @@ pub run_steps : (k new : Kept) (start : ℕ) (server server' : Server) (table ta
 run_steps k new start server server' table table' downs downs' failed ls one live ran no_downs same count are is =
     subst (λ p. let x : Kept = record { limits = k.limits; requests = k.requests; place = p; events = k.events } in Steps x new server server' table table' downs downs' RunAll ls) (sym live)
     (steps_run k.limits one k.requests k.events start server server' table table' downs downs' failed ls new ran no_downs same count are is)
+
+-- the same, over the limits and the requests as the code keeps them
+pub run_steps_as : (k new : Kept) (limits : Limits) (requests : List Request) (start : ℕ) (server server' : Server) (table table' : ConfTable) (downs downs' : List FaultPoint) (failed : Option ℕ) (ls : List Line) →
+    limits ≡ k.limits → requests ≡ k.requests → k.limits.f ≡ 0 → k.place ≡ Some start →
+    RanAll limits requests start server.tree server'.tree table table' failed ls → flat_map failed_of ls ≡ downs_of failed → server'.limits ≡ server.limits → CountedBy server.faults server'.faults failed →
+    downs' ≡ downs ++ points (suc k.events) failed → new ≡ record k { place = place_after failed k.requests; events = suc k.events } →
+    Steps k new server server' table table' downs downs' RunAll ls
+run_steps_as k new limits requests start server server' table table' downs downs' failed ls same_limits same_requests one live ran no_downs same count are is =
+    run_steps k new start server server' table table' downs downs' failed ls one live
+    (subst (λ (q : List Request). RanAll k.limits q start server.tree server'.tree table table' failed ls) same_requests
+        (subst (λ (l : Limits). RanAll l requests start server.tree server'.tree table table' failed ls) same_limits ran))
+    no_downs same count are is
