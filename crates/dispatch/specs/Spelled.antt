@@ -15,7 +15,8 @@ use Rattle.nfs2_args.specs.Forms.{args_form}
 use Rattle.abs_model.specs.declared.Entry.{Entry}
 use Rattle.dispatch.specs.Answer.{Answer, stays, refused, accepted}
 
--- the header of a call (CALL is 0) of RPC version 2 of a procedure of NFS version 2, whose credential names this caller
+-- the header of a call (CALL is 0) of RPC version 2, of a procedure of NFS version 2 (RFC 1094, 2.1), whose credential
+-- names this caller
 pub record CallsNfs (h : Header) (caller : Cred) : Type 0 where
   pub kind : h.kind ≡ 0
   pub rpcvers : h.rpcvers ≡ 2
@@ -33,11 +34,13 @@ abbrev pub AreNoArgs : ℕ → List ℕ → Type 0
 AreNoArgs proc bytes = (call : Call) → Spells (args_form proc) call bytes → ⊥
 
 -- this is the answer to a message that is no call, whose header is refused, or that is a call of NFS
-pub record IsAnswer (A : List Entry) (limits : Limits) (t : Time) (bytes : List ℕ) (a : Answer) : Type 0 where
+pub record IsAnswer (A : List Entry) (limits : Limits) (t : Time) (bytes : List ℕ)
+    (a : Answer) : Type 0 where
   pub silent : IsNoCall bytes → a ≡ stays A words.Silent
   pub refused_head : (front : HasHeader bytes) (xid : ℕ) (why : Refusal) →
       verdict front.says (length front.text) ≡ heads.Refuse xid why → a ≡ refused A xid why
-  pub performed : (front : HasHeader bytes) (caller : Cred) → CallsNfs front.says caller → (call : Call) →
-      Spells (args_form front.says.proc) call front.args → a ≡ accepted A limits t front.says.xid caller call
+  pub performed : (front : HasHeader bytes) (caller : Cred) → CallsNfs front.says caller →
+      (call : Call) → Spells (args_form front.says.proc) call front.args →
+      a ≡ accepted A limits t front.says.xid caller call
   pub garbage : (front : HasHeader bytes) (caller : Cred) → CallsNfs front.says caller →
       AreNoArgs front.says.proc front.args → a ≡ refused A front.says.xid GarbageArgs

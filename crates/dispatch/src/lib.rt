@@ -8,3 +8,6 @@ mod laws;
 pub use built::is_built;
 pub use call::answer;
 pub use laws::answers_are_spelled;
+
+#[cfg(test)]
+mod tests;
