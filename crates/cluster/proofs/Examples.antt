@@ -2,7 +2,6 @@
 -- count, the seconds of its time and its own bytes; a request without bytes is silent.
 use Rattle.std.proofs.Common.{◌≡◌, ℕ, suc, List, [], ◌∷◌, length, refl}
 use Rattle.std.specs.Prelude.{map}
-use Rattle.nfs2_types.specs.declared.Time.{Time}
 use Rattle.nfs2_types.specs.declared.Word.{Word}
 use Rattle.nfs2_types.specs.declared.Word.TheVariants.{Silent, Reply}
 use Rattle.abs_model.specs.declared.Entry.{Entry}
@@ -12,9 +11,7 @@ use Rattle.log_format.specs.declared.Event.{Event}
 use Rattle.log_format.specs.declared.Event.TheVariants.{Request as Ask, RunAll, End}
 use Rattle.log_format.specs.declared.Line.{Line}
 use Rattle.log_format.specs.declared.Line.TheVariants as lines
-use Rattle.cluster.specs.declared.request.Request.{Request}
 use Rattle.cluster.specs.Service.{Service}
-use Rattle.cluster.specs.State.{Condition, Live, Down, Replica}
 use Rattle.cluster.specs.Step.{Moment, casts_word, fails, step}
 use Rattle.cluster.specs.Run.{faults_in, fresh, start, run, end_of}
 

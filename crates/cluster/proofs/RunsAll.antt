@@ -1,5 +1,5 @@
 -- The rounds of a RunAll over the server of one replica.
-use Rattle.std.proofs.Common.{◌≡◌, ℕ, zero, suc, ◌+◌, ◌-◌, ◌<◌, ◌≤◌, Bool, true, false, List, [], ◌∷◌, ◌++◌, length, take, drop, get_or, Option, Some, None, refl, sym, ◌∙◌, ap, subst, arith, append_assoc}
+use Rattle.std.proofs.Common.{◌≡◌, ℕ, suc, ◌+◌, ◌-◌, ◌<◌, ◌≤◌, false, List, [], ◌∷◌, ◌++◌, length, take, drop, get_or, Option, Some, None, refl, sym, ◌∙◌, ap, subst, arith, append_assoc}
 use Rattle.std.specs.Prelude.{slice_get, IfOk, IsErrAnd, Result, Ok, Err}
 use Rattle.std.proofs.lemmas.List.{append-nil, take_rest, get_or-drop, length-drop}
 use Rattle.std.proofs.lemmas.Option.{slice_get_past, slice_get_within, slice_get_read}
@@ -19,13 +19,12 @@ use Rattle.conf_map.specs.Notice.{Counted}
 use Rattle.log_format.specs.declared.Line.{Line}
 use Rattle.log_format.specs.declared.Line.TheVariants as lines
 use Rattle.cluster.specs.declared.request.Request.{Request}
-use Rattle.cluster.specs.Service.{Service}
 use Rattle.cluster.specs.Served.{service}
 use Rattle.cluster.specs.State.{Condition, Live, Down}
-use Rattle.cluster.specs.Step.{Moment, Faults, decision_line, slot_turn, turn}
+use Rattle.cluster.specs.Step.{Moment, Faults, decision_line, slot_turn}
 use Rattle.cluster.specs.Alone.{alone, rounds}
 use Rattle.cluster.specs.OverBench.{IsSeat, IsState, Answered}
-use Rattle.cluster.specs.RunAll.{IsSoundUpto, FailsIn, RanSoFar, RanAll}
+use Rattle.cluster.specs.RunAll.{RanSoFar, RanAll}
 use Rattle.cluster.proofs.AloneSteps.{rounds_more, rounds_quiet, IsQuiet, turn_end}
 use Rattle.cluster.proofs.Turns.{turn_runs, turn_fails, slot}
 

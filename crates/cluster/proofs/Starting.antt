@@ -1,15 +1,14 @@
 -- The start of a cluster of one replica.
-use Rattle.std.proofs.Common.{◌≡◌, ℕ, suc, ◌+◌, ◌≤◌, Bool, true, false, cond, List, [], ◌∷◌, ◌++◌, length, Option, Some, None, refl, sym, ◌∙◌, ap, subst, arith}
-use Rattle.std.specs.List.{All}
+use Rattle.std.proofs.Common.{◌≡◌, ℕ, ◌≤◌, List, [], ◌∷◌, Option, Some, None, refl, sym, ◌∙◌, ap, subst, arith}
 use Rattle.std.proofs.lemmas.List.Elements.{All-nil, All-cons}
 use Rattle.nfs2_types.specs.declared.Limits.{Limits}
 use Rattle.nfs2_types.specs.Counts.{Rose}
 use Rattle.abs_model.specs.Array.{empty_array}
 use Rattle.abs_model.proofs.EmptyFacts.{empty_valid}
-use Rattle.server_trait.specs.Tree.{Tree, Server}
+use Rattle.server_trait.specs.Tree.{Server}
 use Rattle.server_trait.specs.declared.ConfTable.{ConfTable}
 use Rattle.server_trait.specs.declared.FaultPoint.{FaultPoint}
-use Rattle.conf_map.specs.Stands.{Stands, StandsValid}
+use Rattle.conf_map.specs.Stands.{Stands}
 use Rattle.log_format.specs.declared.Line.{Line}
 use Rattle.log_format.specs.declared.Line.TheVariants as lines
 use Rattle.cluster.specs.declared.request.Request.{Request}
@@ -17,9 +16,9 @@ use Rattle.cluster.specs.Service.{Service}
 use Rattle.cluster.specs.Served.{service}
 use Rattle.cluster.specs.State.{Live, Down}
 use Rattle.cluster.specs.Step.{Moment, fails}
-use Rattle.cluster.specs.Run.{faults_in, fresh, start_fault, end_of}
+use Rattle.cluster.specs.Run.{faults_in, end_of}
 use Rattle.cluster.specs.Alone.{alone}
-use Rattle.cluster.specs.OverBench.{IsState, Struck, RoseBy, Kept, Starts}
+use Rattle.cluster.specs.OverBench.{IsState, Struck, Starts}
 use Rattle.cluster.proofs.Growing.{end_start}
 use Rattle.cluster.proofs.Calm.{fresh_alone, start_end}
 

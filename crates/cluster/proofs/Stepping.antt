@@ -1,6 +1,6 @@
 -- What each record does to a cluster of one replica.
-use Rattle.std.proofs.Common.{◌≡◌, ℕ, suc, ◌+◌, ◌<◌, ◌≤◌, Bool, true, false, cond, List, [], ◌∷◌, ◌++◌, length, Option, Some, None, refl, sym, ◌∙◌, ap, subst, arith}
-use Rattle.std.specs.Prelude.{◌==◌, ◌&&◌, ◌||◌, Result, Ok, Err, IfOk, OnOk, Vec}
+use Rattle.std.proofs.Common.{◌≡◌, ℕ, suc, ◌+◌, true, false, List, [], ◌∷◌, ◌++◌, length, Option, Some, None, refl, sym, ◌∙◌, ap, subst, arith}
+use Rattle.std.specs.Prelude.{◌==◌, Result, Ok, Err, IfOk, OnOk, Vec}
 use Rattle.std.specs.Global.{Global}
 use Rattle.nfs2_types.specs.declared.NoMemory.{NoMemory}
 use Rattle.std.specs.List.{All, flat_map}
@@ -9,7 +9,6 @@ use Rattle.std.proofs.lemmas.List.Elements.{All-nil, All-cons}
 use Rattle.std.proofs.lemmas.Bool.Decides.{nat_tests}
 use Rattle.nfs2_types.specs.declared.Limits.{Limits}
 use Rattle.nfs2_types.specs.declared.Time.{Time}
-use Rattle.nfs2_types.specs.declared.Word.{Word}
 use Rattle.server_trait.specs.Tree.{Tree, Server}
 use Rattle.server_trait.specs.declared.ConfTable.{ConfTable}
 use Rattle.server_trait.specs.declared.FaultPoint.{FaultPoint}
@@ -21,7 +20,7 @@ use Rattle.cluster.specs.declared.request.Request.{Request}
 use Rattle.cluster.specs.Service.{Service}
 use Rattle.cluster.specs.Served.{service}
 use Rattle.cluster.specs.State.{Condition, Live, Down}
-use Rattle.cluster.specs.Step.{Moment, Faults, last, step, at_line}
+use Rattle.cluster.specs.Step.{Moment, last, step}
 use Rattle.cluster.specs.Run.{faults_in, failed_of, AreMet}
 use Rattle.cluster.specs.Alone.{alone, rounds}
 use Rattle.cluster.specs.OverBench.{IsSeat, IsState, Kept, Moves, Steps, Struck, end_line}

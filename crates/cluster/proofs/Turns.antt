@@ -1,15 +1,12 @@
 -- One turn of a replica over its server: what it answered is what the model does.
-use Rattle.std.proofs.Common.{◌≡◌, ℕ, suc, ◌+◌, ◌<◌, ◌≤◌, Bool, true, false, cond, List, [], ◌∷◌, ◌++◌, length, Option, Some, None, refl, sym, ◌∙◌, ap, subst, arith}
+use Rattle.std.proofs.Common.{◌≡◌, ℕ, suc, true, false, List, [], ◌∷◌, ◌++◌, Option, Some, None, refl, sym, ◌∙◌, ap, subst, arith}
 use Rattle.std.specs.Prelude.{slice_get, ◌==◌}
 use Rattle.std.proofs.lemmas.Bool.Decides.{nat_tests}
 use Rattle.nfs2_types.specs.declared.Limits.{Limits}
 use Rattle.nfs2_types.specs.declared.Word.{Word}
-use Rattle.abs_model.specs.declared.Entry.{Entry}
-use Rattle.abs_model.specs.Valid.{Valid}
 use Rattle.server_trait.specs.Tree.{Tree}
 use Rattle.server_trait.specs.declared.ConfTable.{ConfTable}
-use Rattle.conf_map.specs.Stands.{Stands, StandsValid}
-use Rattle.dispatch.specs.Answer.{answer}
+use Rattle.conf_map.specs.Stands.{StandsValid}
 use Rattle.log_format.specs.declared.Line.{Line}
 use Rattle.log_format.specs.declared.Line.TheVariants as lines
 use Rattle.cluster.specs.declared.request.Request.{Request}

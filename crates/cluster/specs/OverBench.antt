@@ -1,13 +1,13 @@
 -- How a cluster of one replica and its bench stand for a moment of the model, and what a step of it does. The cluster
 -- keeps no array: the replica's array is what its server and table stand for, whichever it is.
-use Rattle.std.specs.Prelude.{true, ◌≡◌, ◌≢◌, ℕ, suc, ◌+◌, ◌-◌, ◌^◌, ◌<◌, ◌≤◌, min, List, [], ◌++◌, length, All, slice_get, Option, Some, None}
+use Rattle.std.specs.Prelude.{true, ◌≡◌, ℕ, suc, ◌+◌, ◌-◌, ◌^◌, ◌<◌, ◌≤◌, min, List, [], ◌++◌, length, All, Option, Some, None}
 use Rattle.nfs2_types.specs.declared.Limits.{Limits}
 use Rattle.nfs2_types.specs.declared.Word.{Word}
 use Rattle.abs_model.specs.declared.Entry.{Entry}
 use Rattle.server_trait.specs.Tree.{Tree, Server}
 use Rattle.server_trait.specs.declared.ConfTable.{ConfTable}
 use Rattle.server_trait.specs.declared.FaultPoint.{FaultPoint}
-use Rattle.conf_map.specs.Stands.{StandsValid, HasRoom}
+use Rattle.conf_map.specs.Stands.{StandsValid}
 use Rattle.nfs2_types.specs.Times.{is_time}
 use Rattle.dispatch.specs.Answer.{answer, is_built}
 use Rattle.log_format.specs.declared.Event.{Event}
@@ -15,7 +15,6 @@ use Rattle.log_format.specs.declared.Event.TheVariants.{Request as Ask, RunAll, 
 use Rattle.log_format.specs.declared.Line.{Line}
 use Rattle.log_format.specs.declared.Line.TheVariants.{At, AtDown}
 use Rattle.cluster.specs.declared.request.Request.{Request}
-use Rattle.cluster.specs.Service.{Service}
 use Rattle.cluster.specs.Served.{service}
 use Rattle.cluster.specs.State.{lookup, Condition, Live, Down}
 use Rattle.cluster.specs.Step.{Moment, step, last}

@@ -1,4 +1,4 @@
-use Rattle.std.proofs.Common.{◌≡◌, ◌∙◌, [], ◌∷◌, ◌++◌, ap, sym}
+use Rattle.std.proofs.Common.{◌∙◌, [], ◌∷◌, ◌++◌, ap}
 use Rattle.cluster.proofs.RunsAll.{down_counted}
 use Rattle.cluster.proofs.Starting.{starts_live, starts_down, starts_as}
 use Rattle.cluster.proofs.cluster.Cluster.start.Goals as goal
