@@ -248,5 +248,5 @@ pub run_steps_as : (k new : Kept) (limits : Limits) (requests : List Request) (s
 run_steps_as k new limits requests start server server' table table' downs downs' failed ls same_limits same_requests one live ran no_downs same count are is =
     run_steps k new start server server' table table' downs downs' failed ls one live
     (subst (λ (q : List Request). RanAll k.limits q start server.tree server'.tree table table' failed ls) same_requests
-        (subst (λ (l : Limits). RanAll l requests start server.tree server'.tree table table' failed ls) same_limits ran))
+    (subst (λ (l : Limits). RanAll l requests start server.tree server'.tree table table' failed ls) same_limits ran))
     no_downs same count are is

@@ -1,6 +1,6 @@
 //! A cluster of one replica, stepped record by record.
 
-ghost use Rattle.std.specs.Prelude.{true, suc, length, ◌≡◌, ◌<◌, ◌≤◌, ◌^◌, ◌++◌, ◌∷◌, [], IfOk, OnOk};
+ghost use Rattle.std.specs.Prelude.{OnErr, option_map, slice_get, ◌-◌, true, suc, length, ◌≡◌, ◌<◌, ◌≤◌, ◌^◌, ◌++◌, ◌∷◌, [], IfOk, OnOk};
 ghost use Rattle.nfs2_types.specs.Times.{is_time};
 ghost use Rattle.conf_map.specs.Stands.{AreWithin, HasRoom};
 ghost use Rattle.dispatch.specs.Answer.{is_built};
@@ -38,7 +38,8 @@ impl Model for Cluster {
 
 /// Puts a fault point behind the others.
 fn push_point(downs: &mut Vec<FaultPoint>, point: FaultPoint) -> Result<(), NoMemory>
-    ensures { OnOk result (downs.new.items ≡ downs.old.items ++ point ∷ []) }
+    ensures ok { OnOk result (downs.new.items ≡ downs.old.items ++ point ∷ []) }
+    ensures err { OnErr result (downs.new.items ≡ downs.old.items) }
 {
     match downs.push(point) {
         Ok(()) => Ok(()),
@@ -74,6 +75,7 @@ impl Cluster {
         requires none { downs.old.items ≡ [] }
         ensures starts { IfOk result (λ r. Starts limits.now r.0 (state server.old) (state server.new)
             table.new downs.new.items r.1.items) }
+        ensures none { OnErr result (downs.new.items ≡ []) }
         ensures limits { (state server.new).limits ≡ (state server.old).limits }
         ensures later { (state server.old).faults ≤ (state server.new).faults }
     {
@@ -105,6 +107,23 @@ impl Cluster {
         }
     }
 
+    /// How many requests there are.
+    pub fn asked(&self) -> usize
+        ensures { result ≡ length self.now.requests }
+    {
+        self.requests.len()
+    }
+
+    /// The time of the last request.
+    pub fn last_time(&self) -> Option<Time>
+        ensures { result ≡ option_map (λ r. r.time) (slice_get self.now.requests (length self.now.requests - 1)) }
+    {
+        match self.requests.last() {
+            Some(request) => Some(request.time),
+            None => None,
+        }
+    }
+
     /// Steps a record, and gives the lines that it prints. A record that makes the server fail takes the replica down, and
     /// puts the fault point into `downs`. After want of memory the cluster can only be dropped.
     pub fn step(
@@ -121,6 +140,7 @@ impl Cluster {
         requires few { self.old.events < 2 ^ 32 }
         ensures steps { IfOk result (λ lines. Steps self.old self.new (state server.old) (state server.new)
             table.old table.new downs.old.items downs.new.items event lines.items) }
+        ensures same { OnErr result (downs.new.items ≡ downs.old.items) }
         ensures limits { (state server.new).limits ≡ (state server.old).limits }
         ensures later { (state server.old).faults ≤ (state server.new).faults }
     {
@@ -179,6 +199,7 @@ impl Cluster {
         requires few { self.old.events < 2 ^ 32 }
         ensures steps { IfOk result (λ lines. Steps self.old self.new (state server.old) (state server.new)
             table.old table.new downs.old.items downs.new.items Event.RunAll lines.items) }
+        ensures same { OnErr result (downs.new.items ≡ downs.old.items) }
         ensures limits { (state server.new).limits ≡ (state server.old).limits }
         ensures later { (state server.old).faults ≤ (state server.new).faults }
     {
@@ -206,6 +227,7 @@ impl Cluster {
           events = suc self.old.events;
         }) }
         ensures downs { OnOk result (downs.new.items ≡ downs.old.items ++ points (suc self.old.events) failed) }
+        ensures same { OnErr result (downs.new.items ≡ downs.old.items) }
     {
         self.events += 1;
         let Some(stage) = failed else {
