@@ -7,7 +7,7 @@ ghost use Rattle.nfs2_types.specs.declared.Time.{Time};
 ghost use Rattle.abs_model.specs.declared.entry.Entry.{Entry};
 ghost use Rattle.abs_model.specs.Machine.{result_of};
 ghost use Rattle.conf_map.specs.Notice.{Watched};
-ghost use Rattle.conf_map.specs.Stands.{StandsValid};
+ghost use Rattle.conf_map.specs.Stands.{StandsValid, AreWithin};
 ghost use Rattle.wrap_read.specs.Reads.{is_read_call};
 
 use crate::get_attr::get_attr;
@@ -23,6 +23,7 @@ pub fn read_proc(
     args: &Args,
 ) -> Result<NfsResult, WrapErr>
     requires stands { (A : List Entry) × StandsValid limits.now (state server.old).tree table.now A }
+    requires within { AreWithin limits.now }
     requires reads { is_read_call (call_of args.now) ≡ true }
     requires fits { call_fits (call_of args.now) ≡ true }
     ensures result { IfOk result (λ r. (A : List Entry) (cred : Cred) (t : Time) →
