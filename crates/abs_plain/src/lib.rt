@@ -1,13 +1,18 @@
-// A library with one function.
+//! The plain runnable machine: the abstract file service as a program over a list of entries.
 #![tactic(auto)]
 
-ghost use Rattle.std.specs.Prelude.{◌≡◌};
-ghost use Rattle.abs_plain.specs.Echo.{echo_of};
+mod array;
+mod attrs;
+mod bytes;
+mod edits;
+mod reads;
+mod rows;
+mod step;
+mod writes;
 
-// The `ensures` clause is the contract: what `echo` returns is `echo_of` of its argument, a definition
-// in `specs/Echo.antt`, which a caller's clause can cite too.
-pub fn echo(x: usize) -> usize
-    ensures { result ≡ echo_of x }
-{
-    x
-}
+pub use abs_queries::is_valid;
+pub use array::AbsArray;
+pub use step::plain_step;
+
+#[cfg(test)]
+mod tests;

@@ -11,7 +11,7 @@ use Rattle.cluster.specs.declared.request.Request.{Request}
 use Rattle.cluster.specs.Service.{Service}
 use Rattle.cluster.specs.State.{lookup, has, Running, Condition, Live, Down, Replica, same_word, is_word, says}
 use Rattle.cluster.specs.Step.{Moment, Faults, Slot, Next, Quiet, casts_word, counts_word, decides, decision_line, forgets_words, ran, runs, turn, turn_at, takes_turn, slot_turn, slots, moments, last}
-use Rattle.cluster.specs.Alone.{alone}
+use Rattle.cluster.specs.Alone.{alone, rounds}
 use Rattle.cluster.proofs.Growing.{last-append, moments-append}
 
 one_number : (n : ℕ) → (n == n) ≡ true
@@ -82,10 +82,6 @@ pub slot_down : (S : Service) (faults : Faults) (round : ℕ) (q : List Request)
 slot_down S faults round q ds ls = refl
 
 -- ROUNDS
-
--- the moment after so many rounds
-abbrev pub rounds : Service → Faults → Moment → ℕ → Moment
-rounds S faults m k = last m (moments (slot_turn S faults) m (slots k 1))
 
 pub rounds_more : (S : Service) (faults : Faults) (m : Moment) (k : ℕ) → rounds S faults m (suc k) ≡ slot_turn S faults (rounds S faults m k) (record { round = suc k; replica = 0 })
 rounds_more S faults m k =

@@ -17,13 +17,13 @@ use Rattle.cluster.specs.Service.{Service, array_at, said_at}
 use Rattle.cluster.specs.State.{lookup, Running, Condition, Live, Down, Replica}
 use Rattle.cluster.specs.Step.{Moment, Faults, Slot, at_line, decision_line, fails, below, last, moments, slots, slot_turn, step, ran}
 use Rattle.cluster.specs.Run.{faults_in, fresh, start, start_fault, run_from, run, end_of, told_by, replies, requests_of, asked_by}
-use Rattle.cluster.specs.Alone.{said_upto, alone}
+use Rattle.cluster.specs.Alone.{said_upto, alone, rounds}
 use Rattle.cluster.specs.Right.{IsAtPlace, IsRight}
 use Rattle.cluster.proofs.Growing.{last-append}
 use Rattle.cluster.proofs.Places.{array_at-append, said_upto-append, array_at-next, said_at-next}
-use Rattle.cluster.proofs.AloneSteps.{slot_runs, slot_fails, slot_quiet, slot_down, rounds, rounds_more}
+use Rattle.cluster.proofs.AloneSteps.{slot_runs, slot_fails, slot_quiet, slot_down, rounds_more}
 
-lookup-append : {X : Type 0} (k : ℕ) (xs : List (ℕ × X)) (x : ℕ × X) → lookup k xs ≡ None → (x.0 == k) ≡ false → lookup k (xs ++ x ∷ []) ≡ None
+pub lookup-append : {X : Type 0} (k : ℕ) (xs : List (ℕ × X)) (x : ℕ × X) → lookup k xs ≡ None → (x.0 == k) ≡ false → lookup k (xs ++ x ∷ []) ≡ None
 lookup-append k [] x h e = ap (λ b. cond b (Some x.1) None) e
 lookup-append {X} k (y ∷ ys) x h e = by (λ none. lookup-append k ys x none e) (y.0 == k) h
   where

@@ -2,3 +2,8 @@ pub mod AloneSteps
 pub mod Calm
 pub mod Growing
 pub mod Places
+pub mod Replicas
+pub mod RunsAll
+pub mod Starting
+pub mod Stepping
+pub mod Turns

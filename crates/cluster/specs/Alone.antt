@@ -5,7 +5,7 @@ use Rattle.log_format.specs.declared.Line.{Line}
 use Rattle.cluster.specs.declared.request.Request.{Request}
 use Rattle.cluster.specs.Service.{Service, said_at}
 use Rattle.cluster.specs.State.{Condition}
-use Rattle.cluster.specs.Step.{Moment}
+use Rattle.cluster.specs.Step.{Moment, Faults, slots, slot_turn, moments, last}
 
 -- the decisions of the first p places
 abbrev pub said_upto : Service → List Request → ℕ → List (ℕ × Word)
@@ -18,3 +18,7 @@ alone q c decisions lines = record {
   state = record { requests = q; replicas = record { condition = c; words = [] } ∷ []; decisions = decisions };
   lines = lines;
 }
+
+-- the moment after so many rounds
+abbrev pub rounds : Service → Faults → Moment → ℕ → Moment
+rounds S faults m k = last m (moments (slot_turn S faults) m (slots k 1))

@@ -1,6 +1,11 @@
 pub mod Alone
+pub mod Keeping
+pub mod OverBench
 pub mod Right
 pub mod Run
+pub mod RunAll
+pub mod Served
 pub mod Service
 pub mod State
 pub mod Step
+pub mod Watching

@@ -76,11 +76,15 @@ read_link_form = item handle λ node. gives (read_link node)
 
 -- READ: fhandle, offset, count, and totalcount, which is ignored (RFC 1094, 2.2.7)
 unfoldable pub read_form : Grammar Call
-read_form = item handle λ file. item any_word λ offset. item any_word λ count. item any_word λ total_count. gives (read file offset count)
+read_form =
+    item handle λ file. item any_word λ offset. item any_word λ count. item any_word λ total_count.
+    gives (read file offset count)
 
 -- WRITE: fhandle, beginoffset, offset, totalcount, nfsdata; beginoffset and totalcount are ignored (RFC 1094, 2.2.9)
 unfoldable pub write_form : Grammar Call
-write_form = item handle λ file. item any_word λ begin_offset. item any_word λ offset. item any_word λ total_count. item content λ bytes. gives (write file offset bytes)
+write_form =
+    item handle λ file. item any_word λ begin_offset. item any_word λ offset. item any_word λ total_count. item content λ bytes.
+    gives (write file offset bytes)
 
 -- CREATE: diropargs, sattr (RFC 1094, 2.2.10)
 unfoldable pub create_form : Grammar Call
@@ -100,7 +104,9 @@ link_form = item handle λ node. item handle λ dir. item name λ n. gives (link
 
 -- SYMLINK: diropargs, path, sattr (RFC 1094, 2.2.14)
 unfoldable pub symlink_form : Grammar Call
-symlink_form = item handle λ dir. item name λ n. item path λ text. and_then sattr_form λ sattr. gives (symlink dir n text sattr)
+symlink_form =
+    item handle λ dir. item name λ n. item path λ text. and_then sattr_form λ sattr.
+    gives (symlink dir n text sattr)
 
 -- MKDIR: diropargs, sattr (RFC 1094, 2.2.15)
 unfoldable pub make_dir_form : Grammar Call

@@ -7,6 +7,15 @@ ghost use Rattle.nfs2_args.specs.Forms.{handle as handle_item, given, mode_given
 use nfs2_types::{Handle, Sattr, SetTime, Time};
 use xdr_core::{Reader, XdrErr};
 
+/// The bytes that a name may have: MAXNAMLEN (RFC 1094, 2.3.7).
+pub const MAX_NAME: u32 = 255;
+
+/// The bytes that a path may have: MAXPATHLEN (RFC 1094, 2.3.8).
+pub const MAX_PATH: u32 = 1024;
+
+/// The bytes that a WRITE may bring: MAXDATA (RFC 1094, 2.2.9).
+pub const MAX_DATA: u32 = 8192;
+
 /// What leaves a field alone (RFC 1094, 2.3.6).
 pub const ALL_ONES: u32 = 4_294_967_295;
 

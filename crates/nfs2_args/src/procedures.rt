@@ -4,7 +4,7 @@ ghost use Rattle.xdr_core.specs.Grammar.{Gives, reads};
 ghost use Rattle.nfs2_types.specs.Call.{call_of};
 ghost use Rattle.nfs2_args.specs.Forms.{get_attr_form, set_attr_form, lookup_form, read_link_form, read_form, write_form, create_form, remove_form, rename_form, link_form, symlink_form, make_dir_form, remove_dir_form, read_dir_form, stat_fs_form};
 
-use crate::fields::{handle, sattr};
+use crate::fields::{MAX_DATA, MAX_NAME, MAX_PATH, handle, sattr};
 use nfs2_types::Args;
 use xdr_core::{Reader, XdrErr};
 
@@ -33,7 +33,7 @@ pub fn lookup<'a>(r: &mut Reader<'a>) -> Result<Args<'a>, XdrErr>
     ensures { Gives call_of result r.new (reads lookup_form r.old) }
 {
     let dir = handle(r)?;
-    let name = r.opaque(255)?;
+    let name = r.opaque(MAX_NAME)?;
     Ok(Args::Lookup { dir, name })
 }
 
@@ -70,8 +70,8 @@ pub fn write<'a>(r: &mut Reader<'a>) -> Result<Args<'a>, XdrErr>
     let file = handle(r)?;
     let _begin_offset = r.word()?;
     let offset = r.word()?;
-    let _total_count = r.word()?;
-    let bytes = r.opaque(8192)?;
+    let _total = r.word()?;
+    let bytes = r.opaque(MAX_DATA)?;
     Ok(Args::Write {
         file,
         offset,
@@ -85,7 +85,7 @@ pub fn create<'a>(r: &mut Reader<'a>) -> Result<Args<'a>, XdrErr>
     ensures { Gives call_of result r.new (reads create_form r.old) }
 {
     let dir = handle(r)?;
-    let name = r.opaque(255)?;
+    let name = r.opaque(MAX_NAME)?;
     let sattr = sattr(r)?;
     Ok(Args::Create { dir, name, sattr })
 }
@@ -96,7 +96,7 @@ pub fn remove<'a>(r: &mut Reader<'a>) -> Result<Args<'a>, XdrErr>
     ensures { Gives call_of result r.new (reads remove_form r.old) }
 {
     let dir = handle(r)?;
-    let name = r.opaque(255)?;
+    let name = r.opaque(MAX_NAME)?;
     Ok(Args::Remove { dir, name })
 }
 
@@ -106,9 +106,9 @@ pub fn rename<'a>(r: &mut Reader<'a>) -> Result<Args<'a>, XdrErr>
     ensures { Gives call_of result r.new (reads rename_form r.old) }
 {
     let from = handle(r)?;
-    let name = r.opaque(255)?;
+    let name = r.opaque(MAX_NAME)?;
     let to = handle(r)?;
-    let to_name = r.opaque(255)?;
+    let to_name = r.opaque(MAX_NAME)?;
     Ok(Args::Rename {
         from,
         name,
@@ -124,7 +124,7 @@ pub fn link<'a>(r: &mut Reader<'a>) -> Result<Args<'a>, XdrErr>
 {
     let node = handle(r)?;
     let dir = handle(r)?;
-    let name = r.opaque(255)?;
+    let name = r.opaque(MAX_NAME)?;
     Ok(Args::Link { node, dir, name })
 }
 
@@ -134,8 +134,8 @@ pub fn symlink<'a>(r: &mut Reader<'a>) -> Result<Args<'a>, XdrErr>
     ensures { Gives call_of result r.new (reads symlink_form r.old) }
 {
     let dir = handle(r)?;
-    let name = r.opaque(255)?;
-    let text = r.opaque(1024)?;
+    let name = r.opaque(MAX_NAME)?;
+    let text = r.opaque(MAX_PATH)?;
     let sattr = sattr(r)?;
     Ok(Args::Symlink {
         dir,
@@ -151,7 +151,7 @@ pub fn make_dir<'a>(r: &mut Reader<'a>) -> Result<Args<'a>, XdrErr>
     ensures { Gives call_of result r.new (reads make_dir_form r.old) }
 {
     let dir = handle(r)?;
-    let name = r.opaque(255)?;
+    let name = r.opaque(MAX_NAME)?;
     let sattr = sattr(r)?;
     Ok(Args::MkDir { dir, name, sattr })
 }
@@ -162,7 +162,7 @@ pub fn remove_dir<'a>(r: &mut Reader<'a>) -> Result<Args<'a>, XdrErr>
     ensures { Gives call_of result r.new (reads remove_dir_form r.old) }
 {
     let dir = handle(r)?;
-    let name = r.opaque(255)?;
+    let name = r.opaque(MAX_NAME)?;
     Ok(Args::RmDir { dir, name })
 }
 

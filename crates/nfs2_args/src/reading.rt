@@ -53,6 +53,8 @@ pub fn read_args(proc: u32, bytes: &[u8]) -> Result<Args<'_>, XdrErr>
     requires { proc ≤ 17 }
     ensures read { IsReading call_of (args_form proc) bytes.now result }
     ensures all { GivesAll call_of result (reads_all (args_form proc) bytes.now) }
+
+    // What is read is within the bounds of calls, and `write_args` may write it.
     ensures fits { IfOk result (λ a. call_fits (call_of a) ≡ true) }
     ensures fields { IfOk result (λ a. call_fields_fit (call_of a) ≡ true) }
     ensures number { IfOk result (λ a. number_of (call_of a) ≡ proc) }

@@ -3,7 +3,7 @@
 ghost use Rattle.std.specs.Prelude.{◌≡◌, ◌++◌, ◌<◌, ◌^◌, IfOk, OnOk, true, length};
 ghost use Rattle.xdr_core.specs.Items.{spell_word};
 ghost use Rattle.xdr_core.specs.Grammar.{Spells};
-ghost use Rattle.nfs2_types.specs.Call.{call_of, call_fits, read, write, read_dir};
+ghost use Rattle.nfs2_types.specs.Call.{call_of, call_fits, set_attr, read, write, create, link, symlink, read_dir};
 ghost use Rattle.nfs2_args.specs.Forms.{args_form};
 ghost use Rattle.nfs2_args.specs.Spelling.{number_of, call_fields_fit, word_of, time_text, sattr_text, place_text, args_text, IsShaped};
 
@@ -65,13 +65,12 @@ fn put_place(w: &mut Writer, dir: &Handle, name: &[u8]) -> Result<(), NoMemory>
     w.opaque(name)
 }
 
-/// A directory, a name in it, and what is set.
-fn put_new(w: &mut Writer, dir: &Handle, name: &[u8], sattr: &Sattr) -> Result<(), NoMemory>
-    requires { length name.now < 2 ^ 32 }
-    ensures text { OnOk result (w.new ≡ w.old ++ (place_text dir.now name.now ++ sattr_text sattr.now)) }
-    ensures sized { length dir.now ≡ 32 }
+/// SETATTR's arguments.
+fn put_set_attr(w: &mut Writer, node: &Handle, sattr: &Sattr) -> Result<(), NoMemory>
+    ensures text { OnOk result (w.new ≡ w.old ++ args_text (set_attr node.now sattr.now)) }
+    ensures shape { IsShaped (set_attr node.now sattr.now) }
 {
-    put_place(w, dir, name)?;
+    w.fixed(node)?;
     put_sattr(w, sattr)
 }
 
@@ -99,6 +98,44 @@ fn put_write(w: &mut Writer, file: &Handle, offset: u32, bytes: &[u8]) -> Result
     w.opaque(bytes)
 }
 
+/// CREATE's and MKDIR's arguments.
+fn put_new(w: &mut Writer, dir: &Handle, name: &[u8], sattr: &Sattr) -> Result<(), NoMemory>
+    requires { length name.now < 2 ^ 32 }
+    ensures text { OnOk result (w.new ≡ w.old ++ args_text (create dir.now name.now sattr.now)) }
+    ensures shape { IsShaped (create dir.now name.now sattr.now) }
+{
+    put_place(w, dir, name)?;
+    put_sattr(w, sattr)
+}
+
+/// LINK's arguments.
+fn put_link(w: &mut Writer, node: &Handle, dir: &Handle, name: &[u8]) -> Result<(), NoMemory>
+    requires { length name.now < 2 ^ 32 }
+    ensures text { OnOk result (w.new ≡ w.old ++ args_text (link node.now dir.now name.now)) }
+    ensures shape { OnOk result (IsShaped (link node.now dir.now name.now)) }
+{
+    w.fixed(node)?;
+    put_place(w, dir, name)
+}
+
+/// SYMLINK's arguments.
+fn put_symlink(
+    w: &mut Writer,
+    dir: &Handle,
+    name: &[u8],
+    text: &[u8],
+    sattr: &Sattr,
+) -> Result<(), NoMemory>
+    requires name { length name.now < 2 ^ 32 }
+    requires text { length text.now < 2 ^ 32 }
+    ensures text { OnOk result (w.new ≡ w.old ++ args_text (symlink dir.now name.now text.now sattr.now)) }
+    ensures shape { IsShaped (symlink dir.now name.now text.now sattr.now) }
+{
+    put_place(w, dir, name)?;
+    w.opaque(text)?;
+    put_sattr(w, sattr)
+}
+
 /// READDIR's arguments.
 fn put_read_dir(w: &mut Writer, dir: &Handle, cookie: u32, count: u32) -> Result<(), NoMemory>
     ensures text { OnOk result (w.new ≡ w.old ++ args_text (read_dir dir.now cookie count)) }
@@ -118,10 +155,7 @@ fn put_args(w: &mut Writer, args: &Args) -> Result<(), NoMemory>
     match args {
         Args::Null | Args::Root | Args::WriteCache => Ok(()),
         Args::GetAttr { node } | Args::ReadLink { node } | Args::StatFs { node } => w.fixed(node),
-        Args::SetAttr { node, sattr } => {
-            w.fixed(node)?;
-            put_sattr(w, sattr)
-        }
+        Args::SetAttr { node, sattr } => put_set_attr(w, node, sattr),
         Args::Lookup { dir, name } | Args::Remove { dir, name } | Args::RmDir { dir, name } => {
             put_place(w, dir, name)
         }
@@ -147,20 +181,13 @@ fn put_args(w: &mut Writer, args: &Args) -> Result<(), NoMemory>
             put_place(w, from, name)?;
             put_place(w, to, to_name)
         }
-        Args::Link { node, dir, name } => {
-            w.fixed(node)?;
-            put_place(w, dir, name)
-        }
+        Args::Link { node, dir, name } => put_link(w, node, dir, name),
         Args::Symlink {
             dir,
             name,
             text,
             sattr,
-        } => {
-            put_place(w, dir, name)?;
-            w.opaque(text)?;
-            put_sattr(w, sattr)
-        }
+        } => put_symlink(w, dir, name, text, sattr),
         Args::ReadDir { dir, cookie, count } => put_read_dir(w, dir, *cookie, *count),
     }
 }

@@ -9,7 +9,7 @@ use Rattle.xdr_core.specs.declared.error.XdrErr.{XdrErr}
 use Rattle.xdr_core.specs.Items.{boolean, spell, spell_word}
 use Rattle.xdr_core.specs.Grammar.{Grammar, gives, item, Spells, and_then, reads_all, IsFirstWrong}
 use Rattle.xdr_core.proofs.ItemLaws.{IsBytes}
-use Rattle.xdr_core.proofs.Formats.{is_reading, spells_after}
+use Rattle.xdr_core.proofs.Formats.{is_reading, spells_after, no_prefix as no_prefix_of}
 use Rattle.nfs2_results.specs.declared.error.ResErr.{ResErr}
 use Rattle.nfs2_results.specs.declared.error.ResErr.TheVariants.{Xdr, NoMemory}
 use Rattle.nfs2_results.specs.Reading.{GivesWhole, SpellsResult, IsResultOf}
@@ -122,10 +122,16 @@ status_raised g h value text f s =
     let le : length s.1 ≤ length text = omega (arith, word_before s.0 text s.1 s.3) in
     (s.0, s.1, s.2, s.3, raised_then (s.0 == 0) g h (gives (Refused (record { 0 = s.0 }))) value s.1 (f s.1 le) s.4)
 
-pub raised_result : (proc : ℕ) (value : NfsResult) (text : List ℕ) → SpellsResult proc value text → Spells (result_form (length text) proc) value text
-raised_result proc value text s =
-    raised_else (proc == 0 || proc == 3 || proc == 7) (gives Nothing) (status_form (arm_form s.0 proc)) (status_form (arm_form (length text) proc)) value text
-    (status_raised (arm_form s.0 proc) (arm_form (length text) proc) value text (λ more le. arm_raised s.0 (length text) proc value more le)) s.1
+pub raised_result : (m proc : ℕ) (value : NfsResult) (text : List ℕ) → length text ≤ m → SpellsResult proc value text → Spells (result_form m proc) value text
+raised_result m proc value text fits s =
+    raised_else (proc == 0 || proc == 3 || proc == 7) (gives Nothing) (status_form (arm_form s.0 proc)) (status_form (arm_form m proc)) value text
+    (status_raised (arm_form s.0 proc) (arm_form m proc) value text (λ more le. arm_raised s.0 m proc value more (omega (arith, le, fits)))) s.1
+
+pub no_prefix : (proc : ℕ) (a b : NfsResult) (text more : List ℕ) → SpellsResult proc a text → SpellsResult proc b (text ++ more) → (more ≡ []) × (a ≡ b)
+no_prefix proc a b text more s t =
+    let m = length (text ++ more) in
+    no_prefix_of (result_form m proc) a b text more
+    (raised_result m proc a text (omega (arith, length-append text more)) s) (raised_result m proc b (text ++ more) (omega arith) t)
 
 -- ---- all of the bytes
 
@@ -135,12 +141,12 @@ same r = r
 pub is_result : (proc : ℕ) (bytes : List ℕ) (r : Result NfsResult ResErr) → IsBytes bytes → GivesWhole r (reads_all (result_form (length bytes) proc) bytes) → IsResultOf proc bytes r
 is_result proc bytes (Ok x) fits e =
     let s = is_reading same (result_form (length bytes) proc) bytes (Ok x) fits e in
-    record { found = (length bytes, s.found); only = λ value t. s.only value (raised_result proc value bytes t); wrong = λ d is. absurd cc }
+    record { found = (length bytes, s.found); only = λ value t. s.only value (raised_result (length bytes) proc value bytes (omega arith) t); wrong = λ d is. absurd cc }
 is_result proc bytes (Err (Xdr d)) fits e =
     let s = is_reading same (result_form (length bytes) proc) bytes (Err d) fits e in
     record {
       found = tt;
-      only = λ value t. s.only value (raised_result proc value bytes t);
+      only = λ value t. s.only value (raised_result (length bytes) proc value bytes (omega arith) t);
       wrong = λ k is. let one : d ≡ k = cc in subst (λ (v : XdrErr). IsFirstWrong (result_form (length bytes) proc) bytes (record { at = v.at; why = Some v.kind })) one s.wrong;
     }
 is_result proc bytes (Err NoMemory) fits e = record { found = tt; only = λ value t. tt; wrong = λ d is. absurd cc }

@@ -64,6 +64,7 @@ pub record AreWords (a b c d e : ℕ) : Type 0 where
   pub fourth : d < 2 ^ 32
   pub fifth : e < 2 ^ 32
 
+-- what the parts of a result are known to spell, once they are written
 abbrev pub AreSpelled : NfsResult → Type 0
 AreSpelled Nothing = Unit {0}
 AreSpelled (Refused stat) = stat.0 < 2 ^ 32

@@ -2,9 +2,13 @@
 #![tactic(auto)]
 
 mod error;
+mod laws;
 mod reading;
+#[cfg(test)]
+mod tests;
 mod writing;
 
 pub use error::ResErr;
+pub use laws::no_prefix;
 pub use reading::read_result;
 pub use writing::write_result;

@@ -111,8 +111,8 @@ fn put_result(w: &mut Writer, r: &NfsResult) -> Result<(), NoMemory>
     }
 }
 
-/// Appends a result (RFC 1094, 2.2): its status, and for OK what stands behind it. Read as a result of a procedure
-/// of its shape, the bytes give it back.
+/// Appends a result (RFC 1094, 2.2): its status, and for OK what stands behind it.
+/// Read as a result of a procedure of its shape, the bytes give it back.
 pub fn write_result(w: &mut Writer, r: &NfsResult) -> Result<(), NoMemory>
     requires { HasSpelling r.now }
     ensures text { OnOk result (w.new ≡ w.old ++ result_text r.now) }

@@ -10,7 +10,7 @@ use Rattle.rpc_core.specs.Words.{words}
 abbrev pub machine : List ℕ
 machine = codes "gen"
 
--- the body of the credential: a stamp of 0, the machine, and the caller with a count before its further groups
+-- the body of the credential: a stamp of 0, the machine, and the caller, with a count before its groups
 unfoldable pub cred_text : Cred → List ℕ
 cred_text c = spell_word 0 ++ (spell_opaque machine ++ (words (c.uid ∷ c.gid ∷ length c.gids ∷ []) ++ words c.gids))
 
@@ -19,7 +19,9 @@ pub record IsCredText (c : Cred) : Type 0 where
   pub size : length (cred_text c) ≤ 400
   pub spelled : Spells auth_sys c (cred_text c)
 
--- the call up to its arguments: CALL is 0, the version of RPC is 2, AUTH_SYS is 1, and the verifier has flavor 0 and no bytes
+-- the call up to its arguments: CALL is 0, the version of RPC is 2, AUTH_SYS is 1,
+-- and the verifier has flavor 0 and no bytes
 unfoldable pub call_front : (xid prog vers proc : ℕ) → Cred → List ℕ
 call_front xid prog vers proc cred =
-    words (xid ∷ 0 ∷ 2 ∷ prog ∷ vers ∷ proc ∷ 1 ∷ []) ++ (spell_opaque (cred_text cred) ++ (spell_word 0 ++ spell_opaque []))
+    words (xid ∷ 0 ∷ 2 ∷ prog ∷ vers ∷ proc ∷ 1 ∷ [])
+    ++ (spell_opaque (cred_text cred) ++ (spell_word 0 ++ spell_opaque []))

@@ -7,6 +7,8 @@ mod head;
 mod laws;
 mod reply;
 mod request;
+#[cfg(test)]
+mod tests;
 mod words;
 
 pub use call::read_call;

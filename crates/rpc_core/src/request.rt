@@ -17,7 +17,8 @@ use xdr_core::Writer;
 #[tactic(auto, unfolding(crate::specs::Request::cred_text))]
 fn cred_body(alloc: Global, uid: u32, gid: u32, gids: &[u32]) -> Result<Vec<u8>, NoMemory>
     requires { length gids.now ≤ 16 }
-    ensures text { IfOk result (λ v. v.items ≡ cred_text (record { uid = uid; gid = gid; gids = gids.now })) }
+    ensures text { IfOk result (λ v. v.items
+        ≡ cred_text (record { uid = uid; gid = gid; gids = gids.now })) }
     ensures spelled { OnOk result (IsCredText (record { uid = uid; gid = gid; gids = gids.now })) }
 {
     let mut w = Writer::new(alloc);

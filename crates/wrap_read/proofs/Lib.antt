@@ -1,3 +1,4 @@
 pub mod ReadAnswers
 pub mod ReadCalls
 pub mod StepLemmas
+pub mod Limited

@@ -7,7 +7,7 @@ ghost use Rattle.nfs2_types.specs.declared.Time.{Time};
 ghost use Rattle.abs_model.specs.declared.entry.Entry.{Entry};
 ghost use Rattle.abs_model.specs.Machine.{result_of};
 ghost use Rattle.conf_map.specs.Notice.{Watched};
-ghost use Rattle.conf_map.specs.Stands.{StandsValid, AreWithin};
+ghost use Rattle.conf_map.specs.Stands.{AreWithin, StandsValid};
 ghost use Rattle.wrap_read.specs.Reads.{is_read_call};
 
 use crate::get_attr::get_attr;

@@ -1,0 +1,4 @@
+pub mod Ends
+mod ListedFacts
+mod MarkFacts
+mod Orderly

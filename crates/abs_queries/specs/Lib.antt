@@ -1,0 +1,3 @@
+pub mod Listable
+pub mod Marks
+pub mod Refused

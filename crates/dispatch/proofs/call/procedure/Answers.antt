@@ -1,0 +1,12 @@
+use Rattle.dispatch.proofs.Calls.{names_performs, read_performs, is_read}
+use Rattle.dispatch.proofs.call.procedure.Goals as goal
+
+pub returns-in-MkDir-clause-performs : goal.returns-in-MkDir-clause-performs
+returns-in-MkDir-clause-performs g c =
+    names_performs _ _ _ _ _ _ _ _ _ _ _ _ _ c.names_proc.result c.names_proc.ensures.answers c.names_proc.ensures.stands c.names_proc.ensures.told c.names_proc.ensures.noticed
+
+pub returns-in_default : goal.returns-in_default
+returns-in_default g c = record {
+  performs = read_performs _ _ _ _ _ _ _ _ _ _ _ c.read_proc.result (is_read c.args.args.now c.requires.call c.in_default.not-MkDir) c.read_proc.ensures.result c.read_proc.ensures.same;
+  watched = c.read_proc.ensures.watched;
+}

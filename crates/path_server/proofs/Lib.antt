@@ -1,0 +1,9 @@
+pub mod CallLaws
+pub mod ChangeLaws
+pub mod Keys
+pub mod MakeLaws
+pub mod NameLaws
+pub mod NodeLaws
+pub mod Rows
+pub mod Serials
+pub mod SoundLaws

@@ -1,0 +1,14 @@
+//! A file server that keeps its directories in memory.
+#![tactic(auto)]
+
+mod key;
+mod laws;
+mod names;
+mod node;
+mod server;
+
+pub use laws::{no_faults, within_limits};
+pub use server::PathServer;
+
+#[cfg(test)]
+mod tests;
