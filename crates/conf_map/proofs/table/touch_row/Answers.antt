@@ -1,4 +1,4 @@
-use Rattle.std.proofs.Common.{refl, sym, ap}
+use Rattle.std.proofs.Common.{refl}
 use Rattle.std.proofs.lemmas.Option.{slice_get_read}
 use Rattle.conf_map.specs.Tables.{index_in}
 use Rattle.conf_map.proofs.InStep.{touched_handles, touched_in_step}
