@@ -3,8 +3,10 @@
 
 mod event;
 mod header;
+mod laws;
 mod line;
 
 pub use event::Event;
 pub use header::Header;
+pub use laws::{headers_are_their_spellings, lengths_are_told, records_are_their_spellings};
 pub use line::{IdleCause, Line, write_line};
