@@ -5,6 +5,8 @@ mod event;
 mod header;
 mod laws;
 mod line;
+#[cfg(test)]
+mod tests;
 
 pub use event::Event;
 pub use header::Header;
