@@ -2,7 +2,6 @@
 -- the front of some bytes and gives the bytes behind it.
 use Rattle.std.specs.Prelude.{ℕ, ◌+◌, ◌==◌, ◌&&◌, ◌||◌, nat_le, Bool, List, length, codes, Option, Some, None, if◌then◌else◌}
 use Rattle.std.specs.Str.{bytes_eq}
-use Rattle.nfs2_types.specs.declared.Time.{Time}
 use Rattle.log_format.specs.declared.event.Event.{Event}
 use Rattle.log_format.specs.declared.event.Event.TheVariants.{Request, RunAll, End, Unbuilt}
 use Rattle.log_format.specs.declared.header.Header.{Header}
