@@ -1,5 +1,6 @@
 pub mod AloneSteps
 pub mod Calm
+mod Examples
 pub mod Growing
 pub mod Places
 pub mod Replicas

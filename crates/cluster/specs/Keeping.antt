@@ -7,7 +7,8 @@ use Rattle.conf_map.specs.Stands.{AreWithin}
 use Rattle.dispatch.specs.Answer.{is_built}
 use Rattle.cluster.specs.declared.request.Request.{Request}
 
--- one replica within the limits of the service, which has passed no more requests than there are, all of which can be answered
+-- one replica within the limits of the service, which has passed no more requests than there are,
+-- all of which can be answered
 pub record IsKept (limits : Limits) (requests : List Request) (place : Option ℕ) : Type 0 where
   pub one : limits.f ≡ 0
   pub within : AreWithin limits

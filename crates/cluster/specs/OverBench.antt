@@ -22,7 +22,8 @@ use Rattle.cluster.specs.Step.{Moment, step, last}
 use Rattle.cluster.specs.Run.{faults_in, end_of, asked_by, AreMet}
 use Rattle.cluster.specs.Alone.{alone}
 
--- what a cluster keeps: its limits, the requests, the place of its replica unless that is down, and how many events it stepped
+-- what a cluster keeps: its limits, the requests, the place of its replica unless that is down,
+-- and how many events it stepped
 pub record Kept : Type 0 where
   pub limits : Limits
   pub requests : List Request
@@ -35,21 +36,25 @@ Undecided place decisions = (p : ℕ) → place < p → lookup p decisions ≡ N
 
 -- A live replica is at its place, and server and table stand for its array.
 abbrev pub IsSeat : Limits → Option Tree → ConfTable → Option ℕ → List (ℕ × Word) → Condition → Type 0
-IsSeat limits tree table (Some place) decisions (Live l) = (l.place ≡ place) × StandsValid limits tree table l.array × Undecided place decisions
+IsSeat limits tree table (Some place) decisions (Live l) =
+    (l.place ≡ place) × StandsValid limits tree table l.array × Undecided place decisions
 IsSeat limits tree table None decisions Down = Unit {0}
 IsSeat limits tree table (Some place) decisions Down = ⊥
 IsSeat limits tree table None decisions (Live l) = ⊥
 
 -- requests, place, server and table stand for a moment
-pub record IsState (limits : Limits) (requests : List Request) (place : Option ℕ) (tree : Option Tree) (table : ConfTable) (m : Moment) : Type 0 where
+pub record IsState (limits : Limits) (requests : List Request) (place : Option ℕ)
+    (tree : Option Tree) (table : ConfTable) (m : Moment) : Type 0 where
   pub condition : Condition
   pub is_alone : m ≡ alone requests condition m.state.decisions m.lines
   pub seat : IsSeat limits tree table place m.state.decisions condition
 
 -- a request was answered from whatever array server and table stood for
-pub record Answered (limits : Limits) (r : Request) (tree tree' : Option Tree) (table table' : ConfTable) (w : Word) : Type 0 where
+pub record Answered (limits : Limits) (r : Request)
+    (tree tree' : Option Tree) (table table' : ConfTable) (w : Word) : Type 0 where
   pub step : (A : List Entry) → StandsValid limits tree table A →
-      StandsValid limits tree' table' (answer A limits r.time r.bytes).array × (w ≡ (answer A limits r.time r.bytes).word)
+      StandsValid limits tree' table' (answer A limits r.time r.bytes).array
+      × (w ≡ (answer A limits r.time r.bytes).word)
 
 -- the count rose by at least so much, or stands at its end
 abbrev pub RoseBy : ℕ → ℕ → ℕ → Type 0
@@ -63,14 +68,17 @@ pub record Struck (n : ℕ) (old new : Server) : Type 0 where
 
 -- The model goes from any moment for which cluster, server and table stood by this step to one for which they stand now,
 -- and these are the lines that it adds.
-abbrev pub Moves : Kept → Kept → Option Tree → Option Tree → ConfTable → ConfTable → List FaultPoint → Event → List Line → Type 0
+abbrev pub Moves : Kept → Kept → Option Tree → Option Tree → ConfTable → ConfTable →
+    List FaultPoint → Event → List Line → Type 0
 Moves old new tree tree' table table' met event lines =
     (m : Moment) → IsState old.limits old.requests old.place tree table m →
     let n = last m (step (service old.limits) (faults_in met (suc old.events)) event m) in
     IsState new.limits new.requests new.place tree' table' n × (n.lines ≡ m.lines ++ lines)
 
--- a step of the cluster
-pub record Steps (old new : Kept) (server server' : Server) (table table' : ConfTable) (downs downs' : List FaultPoint) (event : Event) (lines : List Line) : Type 0 where
+-- A step of the cluster: the fault points that it met come behind the others, have the number of this event, and each has
+-- its `down` line; limits and earlier requests stay, one event more is counted, and the model makes the same step.
+pub record Steps (old new : Kept) (server server' : Server) (table table' : ConfTable)
+    (downs downs' : List FaultPoint) (event : Event) (lines : List Line) : Type 0 where
   pub met : List FaultPoint
   pub downs_are : downs' ≡ downs ++ met
   pub numbered : All (λ (d : FaultPoint). (d.event ≡ suc old.events) × (d.replica ≡ 0)) met
@@ -88,13 +96,15 @@ HasArray limits tree table (Some place) = (A : List Entry) × StandsValid limits
 
 -- a record that can be stepped: one more request may come, at a time, and can be answered
 abbrev pub CanStep : List Request → Event → Type 0
-CanStep requests (Ask client time bytes) = (length requests < 1000000) × (is_time time ≡ true) × (is_built bytes ≡ true)
+CanStep requests (Ask client time bytes) =
+    (length requests < 1000000) × (is_time time ≡ true) × (is_built bytes ≡ true)
 CanStep requests RunAll = Unit {0}
 CanStep requests End = Unit {0}
 CanStep requests Unbuilt = ⊥
 
 -- the start, whose fault points have the event number 0
-pub record Starts (limits : Limits) (new : Kept) (server server' : Server) (table' : ConfTable) (downs : List FaultPoint) (lines : List Line) : Type 0 where
+pub record Starts (limits : Limits) (new : Kept) (server server' : Server) (table' : ConfTable)
+    (downs : List FaultPoint) (lines : List Line) : Type 0 where
   pub numbered : All (λ (d : FaultPoint). (d.event ≡ 0) × (d.replica ≡ 0)) downs
   pub lines_are : AreMet downs lines
   pub limits_are : new.limits ≡ limits

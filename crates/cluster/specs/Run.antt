@@ -13,12 +13,14 @@ use Rattle.cluster.specs.Service.{Service}
 use Rattle.cluster.specs.State.{Live}
 use Rattle.cluster.specs.Step.{Moment, Faults, below, moments, last, fails, step}
 
--- the faults of the event with this number
+-- which servers fail in the event with this number, by stage and replica
 unfoldable pub faults_in : List FaultPoint → ℕ → Faults
-faults_in downs e stage r = list_any (λ (d : FaultPoint). (d.event == e) && (d.stage == stage) && (d.replica == r)) downs
+faults_in downs e stage r =
+    list_any (λ (d : FaultPoint). (d.event == e) && (d.stage == stage) && (d.replica == r)) downs
 
 -- THE START, which is the event 0: each replica is live at place 0, unless its server fails
 
+-- 3f + 1 replicas, live at place 0 with the empty array; no requests, words, decisions or lines
 abbrev pub fresh : Service → Moment
 fresh S = record {
   state = record {
@@ -29,6 +31,7 @@ fresh S = record {
   lines = [];
 }
 
+-- the start of replica r: it is down where its server fails in stage 0
 abbrev pub start_fault : Faults → Moment → ℕ → Moment
 start_fault faults m r = cond (faults 0 r) (fails r m) m
 
@@ -55,30 +58,32 @@ end_of S downs events = last (fresh S) (run S downs events)
 
 -- WHAT LINES TELL
 
--- the requests among some records
+-- the request that a record appends, if it is one
 abbrev pub asked_by : Event → List Request
 asked_by (Ask client time bytes) = record { time = time; bytes = bytes } ∷ []
 asked_by RunAll = []
 asked_by End = []
 asked_by Unbuilt = []
 
+-- the requests of all records, in order
 abbrev pub requests_of : List Event → List Request
 requests_of events = flat_map asked_by events
 
--- the decisions that lines tell of
+-- the decision that a line tells of, if it is one: a place and its word
 abbrev pub told_by : Line → List (ℕ × Word)
 told_by (lines.Reply p bytes) = (p, words.Reply bytes) ∷ []
 told_by (lines.Silent p) = (p, words.Silent) ∷ []
 told_by _ = []
 
+-- the decisions that all these lines tell of, in order
 abbrev pub replies : List Line → List (ℕ × Word)
 replies ls = flat_map told_by ls
 
--- the replicas whose servers failed, in order
+-- the replica whose server failed, if the line is a `down`
 abbrev pub failed_of : Line → List ℕ
 failed_of (lines.Down r) = r ∷ []
 failed_of _ = []
 
--- each fault point has its line, in order
+-- the `down` lines tell of the replicas of these fault points, in order
 abbrev pub AreMet : List FaultPoint → List Line → Type 0
 AreMet downs ls = map (λ (d : FaultPoint). d.replica) downs ≡ flat_map failed_of ls

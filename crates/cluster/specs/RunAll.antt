@@ -38,20 +38,24 @@ place_after None requests = Some (length requests)
 place_after (Some round) requests = None
 
 -- After k rounds without a failure the replica has passed k places more, and these are the lines.
-abbrev pub RanSoFar : Limits → List Request → ℕ → Option Tree → Option Tree → ConfTable → ConfTable → ℕ → List Line → Type 0
+abbrev pub RanSoFar : Limits → List Request → ℕ → Option Tree → Option Tree → ConfTable → ConfTable →
+    ℕ → List Line → Type 0
 RanSoFar limits requests start tree tree' table table' k lines =
     (faults : Faults) → IsSoundUpto k faults → (m : Moment) → IsState limits requests (Some start) tree table m →
-    IsState limits requests (Some (start + k)) tree' table' (rounds (service limits) faults m k) × ((rounds (service limits) faults m k).lines ≡ m.lines ++ lines)
+    IsState limits requests (Some (start + k)) tree' table' (rounds (service limits) faults m k)
+    × ((rounds (service limits) faults m k).lines ≡ m.lines ++ lines)
 
--- After all rounds, in one of which the server may have failed.
-abbrev pub RanAll : Limits → List Request → ℕ → Option Tree → Option Tree → ConfTable → ConfTable → Option ℕ → List Line → Type 0
+-- After all rounds, in one of which the server may have failed, the replica is at the end or down, and these are the lines.
+abbrev pub RanAll : Limits → List Request → ℕ → Option Tree → Option Tree → ConfTable → ConfTable →
+    Option ℕ → List Line → Type 0
 RanAll limits requests start tree tree' table table' failed lines =
     (faults : Faults) → FailsIn failed faults → (m : Moment) → IsState limits requests (Some start) tree table m →
     IsState limits requests (place_after failed requests) tree' table' (rounds (service limits) faults m (length requests))
     × ((rounds (service limits) faults m (length requests)).lines ≡ m.lines ++ lines)
 
 -- the loop of a RunAll after k rounds: the server has not failed
-pub record SoFar (limits : Limits) (requests : List Request) (start : ℕ) (old now : Server) (table table' : ConfTable) (place k : ℕ) (lines : List Line) : Type 0 where
+pub record SoFar (limits : Limits) (requests : List Request) (start : ℕ) (old now : Server)
+    (table table' : ConfTable) (place k : ℕ) (lines : List Line) : Type 0 where
   pub place_is : place ≡ start + k
   pub ran : RanSoFar limits requests start old.tree now.tree table table' k lines
   pub no_downs : flat_map failed_of lines ≡ []

@@ -4,6 +4,7 @@ use Rattle.abs_model.specs.Array.{empty_array}
 use Rattle.dispatch.specs.Answer.{answer}
 use Rattle.cluster.specs.Service.{Service}
 
+-- its requests are answered from bytes to bytes, each at its own time
 unfoldable pub service : Limits → Service
 service limits = record {
   f = limits.f;

@@ -10,6 +10,7 @@ abbrev pub lookup : {X : Type 0} → ℕ → List (ℕ × X) → Option X
 lookup k [] = None
 lookup k (p ∷ ps) = cond (p.0 == k) (Some p.1) (lookup k ps)
 
+-- there is a value
 abbrev pub has : {X : Type 0} → Option X → Bool
 has None = false
 has (Some y) = true
@@ -19,15 +20,17 @@ pub record Running : Type 0 where
   pub array : List Entry
   pub place : ℕ
 
+-- a replica is live, or down since its server failed
 pub data Condition : Type 0 where
   Live : Running → Condition
   Down : Condition
 
--- a replica with its standing words, by place
+-- a replica, and its standing words by place: those that it cast for places that are not decided
 pub record Replica : Type 0 where
   pub condition : Condition
   pub words : List (ℕ × Word)
 
+-- the requests in their order, the replicas by number, and each decided place with its first decision
 pub record State : Type 0 where
   pub requests : List Request
   pub replicas : List Replica
@@ -40,6 +43,7 @@ same_word (Reply a) (Reply b) = bytes_eq a b
 same_word Silent (Reply b) = false
 same_word (Reply a) Silent = false
 
+-- there is a word, and it is w
 abbrev pub is_word : Word → Option Word → Bool
 is_word w None = false
 is_word w (Some v) = same_word w v

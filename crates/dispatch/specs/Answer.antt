@@ -32,28 +32,35 @@ stays A word = record { array = A; word = word; told = [] }
 abbrev pub refused : List Entry → ℕ → Refusal → Answer
 refused A xid why = stays A (words.Reply (refusal_text xid why))
 
--- a call of NFS: the machine's result in an accepted reply, or the refusal of arguments that are not spelled
-abbrev pub by_args : List Entry → Limits → Time → ℕ → Cred → Result Call Stop → Answer
-by_args A limits t xid cred (Err e) = refused A xid GarbageArgs
-by_args A limits t xid cred (Ok call) = record {
+-- a call that is made by this caller at this time: the machine's result in an accepted reply
+abbrev pub accepted : List Entry → Limits → Time → ℕ → Cred → Call → Answer
+accepted A limits t xid cred call = record {
   array = array_after A limits cred t call;
   word = words.Reply (success_text xid ++ result_text (result_of A limits cred t call));
   told = told A limits cred t call;
 }
+
+-- a call of NFS, by its arguments: what was called is performed, and bytes that spell no arguments are refused
+abbrev pub by_args : List Entry → Limits → Time → ℕ → Cred → Result Call Stop → Answer
+by_args A limits t xid cred (Err e) = refused A xid GarbageArgs
+by_args A limits t xid cred (Ok call) = accepted A limits t xid cred call
 
 -- what the header of the call says; MOUNT (program 100005) is not built yet
 abbrev pub by_head : List Entry → Limits → Time → List ℕ → CallHead → Answer
 by_head A limits t bytes heads.Silent = stays A words.Silent
 by_head A limits t bytes (heads.Refuse xid why) = refused A xid why
 by_head A limits t bytes (heads.Call xid prog vers proc cred args_at) =
-    if prog == 100003 then by_args A limits t xid cred (reads_all (args_form proc) (drop args_at bytes)) else stays A words.Silent
+    if prog == 100003
+    then by_args A limits t xid cred (reads_all (args_form proc) (drop args_at bytes))
+    else stays A words.Silent
 
+-- the answer to a message: the first check of the header or the arguments that fails decides (RFC 5531, 9)
 unfoldable pub answer : List Entry → Limits → Time → List ℕ → Answer
 answer A limits t bytes = by_head A limits t bytes (head_in bytes)
 
 -- WHAT IS BUILT
 
--- the procedures that are built: NULL, GETATTR, LOOKUP and MKDIR
+-- the procedures that are built: NULL, GETATTR, LOOKUP and MKDIR (RFC 1094, 2.2.1, 2.2.2, 2.2.5 and 2.2.15)
 abbrev pub is_built_call : Call → Bool
 is_built_call null = true
 is_built_call (get_attr node) = true
@@ -66,10 +73,12 @@ abbrev pub built_args : Result Call Stop → Bool
 built_args (Err e) = true
 built_args (Ok call) = is_built_call call
 
+-- no call and a refused one are built; of the calls those of NFS (program 100003) whose arguments are
 abbrev pub built_head : List ℕ → CallHead → Bool
 built_head bytes heads.Silent = true
 built_head bytes (heads.Refuse xid why) = true
-built_head bytes (heads.Call xid prog vers proc cred args_at) = prog == 100003 && built_args (reads_all (args_form proc) (drop args_at bytes))
+built_head bytes (heads.Call xid prog vers proc cred args_at) =
+    prog == 100003 && built_args (reads_all (args_form proc) (drop args_at bytes))
 
 -- a request that can be answered
 unfoldable pub is_built : List ℕ → Bool

@@ -3,6 +3,11 @@
 
 mod built;
 mod call;
+mod laws;
 
 pub use built::is_built;
 pub use call::answer;
+pub use laws::answers_are_spelled;
+
+#[cfg(test)]
+mod tests;

@@ -41,8 +41,8 @@ returns-in-Err-clause-answers g c =
     let built = built_call c.args.call.now c.in-Call.xid c.in-Call.prog c.in-Call.vers c.in-Call.proc c.in-Call.cred c.in-Call.args_at is c.requires.built in
     written_if _ c.refuse-in-Err.result c.written-in-Err.result c.written-in-Err.ensures.ok c.written-in-Err.ensures.err
     (if_ok_map _ _ c.refuse-in-Err.result (λ word e. λ A sv.
-        stays_answers (answer_called A c.args.limits.now c.args.time c.args.call.now c.in-Call.xid c.in-Call.prog c.in-Call.vers c.in-Call.proc c.in-Call.cred c.in-Call.args_at _ is built.0 (rw (take_rest c.args.call.now c.in-Call.args_at) at c.in-Err.ensures.all)
-        ∙ ap (λ w. record { array = A; word = w; told = [] }) (sym e)) sv) c.refuse-in-Err.ensures)
+    stays_answers (answer_called A c.args.limits.now c.args.time c.args.call.now c.in-Call.xid c.in-Call.prog c.in-Call.vers c.in-Call.proc c.in-Call.cred c.in-Call.args_at _ is built.0 (rw (take_rest c.args.call.now c.in-Call.args_at) at c.in-Err.ensures.all)
+    ∙ ap (λ w. record { array = A; word = w; told = [] }) (sym e)) sv) c.refuse-in-Err.ensures)
 
 pub returns-in_ok-outcome-in-Ok-clause-answers : goal.returns-in_ok-outcome-in-Ok-clause-answers
 returns-in_ok-outcome-in-Ok-clause-answers g c =
@@ -50,7 +50,7 @@ returns-in_ok-outcome-in-Ok-clause-answers g c =
     let built = built_call c.args.call.now c.in-Call.xid c.in-Call.prog c.in-Call.vers c.in-Call.proc c.in-Call.cred c.in-Call.args_at is c.requires.built in
     written_if _ c.accept.result c.written-in-Ok.result c.written-in-Ok.ensures.ok c.written-in-Ok.ensures.err
     (if_ok_map _ _ c.accept.result (λ word e. λ A sv.
-        performs_answers c.in-Call.xid (call_of c.in-Ok.args) c.in_ok-outcome-in-Ok.outcome word
-        (answer_called A c.args.limits.now c.args.time c.args.call.now c.in-Call.xid c.in-Call.prog c.in-Call.vers c.in-Call.proc c.in-Call.cred c.in-Call.args_at _ is built.0 (rw (take_rest c.args.call.now c.in-Call.args_at) at c.in-Ok.ensures.all))
-        (stays_valid c.args.limits.now A c.in-Call.cred c.args.time (call_of c.in-Ok.args) c.requires.time c.in-Ok.ensures.fits sv.valid)
-        (c.in_ok-outcome-in-Ok.ensures.performs A sv) e) c.accept.ensures)
+    performs_answers c.in-Call.xid (call_of c.in-Ok.args) c.in_ok-outcome-in-Ok.outcome word
+    (answer_called A c.args.limits.now c.args.time c.args.call.now c.in-Call.xid c.in-Call.prog c.in-Call.vers c.in-Call.proc c.in-Call.cred c.in-Call.args_at _ is built.0 (rw (take_rest c.args.call.now c.in-Call.args_at) at c.in-Ok.ensures.all))
+    (stays_valid c.args.limits.now A c.in-Call.cred c.args.time (call_of c.in-Ok.args) c.requires.time c.in-Ok.ensures.fits sv.valid)
+    (c.in_ok-outcome-in-Ok.ensures.performs A sv) e) c.accept.ensures)

@@ -1,0 +1,80 @@
+-- The answer by reading a message is the answer by what it is spelled of.
+use Rattle.std.proofs.Common.{◌≡◌, ◌≢◌, ◌≤◌, ℕ, Bool, true, false, cond, List, ◌++◌, length, drop, Option, Some, None, Result, Ok, Err, refl, sym, ◌∙◌, ap, subst, arith}
+use Rattle.std.specs.Prelude.{◌==◌, ◌||◌, nat_le}
+use Rattle.std.proofs.lemmas.Bool.Decides.{nat_tests}
+use Rattle.std.proofs.Math.Seq.{drop-append_seam}
+use Rattle.nfs2_types.specs.declared.Limits.{Limits}
+use Rattle.nfs2_types.specs.declared.Time.{Time}
+use Rattle.nfs2_types.specs.declared.Cred.{Cred}
+use Rattle.nfs2_types.specs.declared.Word.TheVariants as words
+use Rattle.nfs2_types.specs.Call.{Call}
+use Rattle.xdr_core.specs.Items.{IsBytes}
+use Rattle.xdr_core.specs.Grammar.{Spells, Stop, reads_all}
+use Rattle.xdr_core.proofs.ItemLaws.{IsBytes-drop}
+use Rattle.xdr_core.proofs.Formats.{whole_again, is_reading}
+use Rattle.rpc_core.specs.declared.CallHead.{CallHead}
+use Rattle.rpc_core.specs.declared.CallHead.TheVariants as heads
+use Rattle.rpc_core.specs.declared.Refusal.{Refusal}
+use Rattle.rpc_core.specs.declared.Refusal.TheVariants.{GarbageArgs}
+use Rattle.rpc_core.specs.Call.{Header, HasHeader, IsHead, head_in, verdict, version_of, last_of, first_failed, checks, judged, called}
+use Rattle.rpc_core.proofs.Heads.{is_head}
+use Rattle.nfs2_args.specs.Forms.{args_form}
+use Rattle.abs_model.specs.declared.Entry.{Entry}
+use Rattle.dispatch.specs.Answer.{Answer, answer, stays, refused, accepted, by_args}
+use Rattle.dispatch.specs.Spelled.{CallsNfs, IsNoCall, AreNoArgs, IsAnswer}
+use Rattle.dispatch.proofs.Calls.{answer_silent, answer_refused, answer_called}
+
+-- what is no call has no answer
+no_call : (h : Header) (at : ℕ) → h.kind ≢ 0 → verdict h at ≡ heads.Silent
+unfolding verdict
+no_call h at other =
+    let differ : (h.kind == 0) ≡ false = grind (arith, nat_tests) in
+    ap (λ b. cond b (judged h at (first_failed (checks h))) heads.Silent) differ
+
+-- a call of NFS passes each check
+nfs_call : (h : Header) (at : ℕ) (caller : Cred) → CallsNfs h caller → verdict h at ≡ heads.Call h.xid 100003 2 h.proc caller at
+unfolding verdict
+nfs_call h at caller is =
+    let few : nat_le h.proc 17 ≡ true = (let le = is.proc in grind (arith, nat_tests)) in
+    rw (is.kind, is.rpcvers, is.prog, is.vers, few, is.cred) refl
+
+-- the bytes behind the header
+args_of : (bytes : List ℕ) (front : HasHeader bytes) → drop (length front.text) bytes ≡ front.args
+args_of bytes front = ap (drop (length front.text)) front.whole ∙ drop-append_seam front.text front.args
+
+-- what reading all of the bytes gives where nothing is spelled
+none_read : (proc : ℕ) (bytes : List ℕ) → IsBytes bytes → AreNoArgs proc bytes → (r : Result Call Stop) → reads_all (args_form proc) bytes ≡ r → (A : List Entry) (limits : Limits) (t : Time) (xid : ℕ) (caller : Cred) →
+    by_args A limits t xid caller r ≡ refused A xid GarbageArgs
+none_read proc bytes fits none (Ok call) e A limits t xid caller = absurd (none call ((is_reading (λ (c : Call). c) (args_form proc) bytes (Ok call) fits e).found))
+none_read proc bytes fits none (Err stop) e A limits t xid caller = refl
+
+module _ (A : List Entry) (limits : Limits) (t : Time) (bytes : List ℕ) (fits : IsBytes bytes) where
+  abbrev head : IsHead bytes (head_in bytes)
+  head = is_head bytes (head_in bytes) fits refl
+
+  no_head : IsNoCall bytes → (h : CallHead) → head_in bytes ≡ h → head_in bytes ≡ heads.Silent
+  no_head none heads.Silent e = e
+  no_head none (heads.Refuse xid why) e = let front = head.found (λ s. cc) in head.told front ∙ no_call front.says (length front.text) (none front)
+  no_head none (heads.Call xid prog vers proc cred args_at) e = let front = head.found (λ s. cc) in head.told front ∙ no_call front.says (length front.text) (none front)
+
+  module _ (front : HasHeader bytes) (caller : Cred) (is : CallsNfs front.says caller) where
+    calls : head_in bytes ≡ heads.Call front.says.xid 100003 2 front.says.proc caller (length front.text)
+    calls = head.told front ∙ nfs_call front.says (length front.text) caller is
+
+    by_reading : (r : Result Call Stop) → reads_all (args_form front.says.proc) front.args ≡ r → answer A limits t bytes ≡ by_args A limits t front.says.xid caller r
+    by_reading r e =
+        answer_called A limits t bytes front.says.xid 100003 2 front.says.proc caller (length front.text) r calls refl
+        (ap (reads_all (args_form front.says.proc)) (args_of bytes front) ∙ e)
+
+    fit_args : IsBytes front.args
+    fit_args = subst IsBytes (args_of bytes front) (IsBytes-drop (length front.text) bytes fits)
+
+  pub spelled : IsAnswer A limits t bytes (answer A limits t bytes)
+  spelled = record {
+    silent = λ none. answer_silent A limits t bytes (no_head none (head_in bytes) refl);
+    refused_head = λ front xid why e. answer_refused A limits t bytes xid why (head.told front ∙ e);
+    performed = λ front caller is call s. by_reading front caller is (Ok call) (whole_again (args_form front.says.proc) call front.args s);
+    garbage = λ front caller is none.
+        by_reading front caller is (reads_all (args_form front.says.proc) front.args) refl
+        ∙ none_read front.says.proc front.args (fit_args front caller is) none (reads_all (args_form front.says.proc) front.args) refl A limits t front.says.xid caller;
+  }
