@@ -17,6 +17,9 @@ use std::alloc::Global;
 /// The most bytes of a call.
 const MOST_CALL: u32 = 65536;
 
+/// The microseconds of a second.
+const SECOND: u32 = 1_000_000;
+
 /// The kinds of records.
 const REQUEST: u32 = 1;
 
@@ -98,7 +101,7 @@ fn read_request<S: Source>(alloc: Global, input: &mut S) -> Result<Event, ReadEr
     let client = read_word(input)?;
     let secs = read_word(input)?;
     let micros = read_word(input)?;
-    if micros >= 1_000_000 {
+    if micros >= SECOND {
         return Err(ReadErr::Wrong);
     }
     let bytes = read_opaque(alloc, MOST_CALL, input)?;
@@ -136,7 +139,7 @@ fn read_fields<S: Source>(alloc: Global, kind: u32, input: &mut S) -> Result<Eve
     }
 }
 
-/// How many bytes a record takes.
+/// How many bytes a record takes in a log.
 pub fn record_len(event: &Event) -> u64
     requires { len_of event.now < 2 ^ 64 }
     ensures { result ≡ len_of event.now }
@@ -150,7 +153,8 @@ pub fn record_len(event: &Event) -> u64
     }
 }
 
-/// Reads a record. `Wrong` says that the source has no record there.
+/// Reads a record from the front of the source, and not a byte behind it. `Wrong` says that the source has no record
+/// there. After an error some bytes of the record may be taken.
 pub fn read_record<S: Source>(alloc: Global, input: &mut S) -> Result<Event, ReadErr>
     ensures bytes { Reads record_at (λ e. e) (S.left input.old) (S.left input.new) result }
     ensures len { IfOk result (λ e. len_of e ≤ 65560) }
@@ -177,7 +181,8 @@ fn is_header(magic: &[u8], header: &Header) -> bool
     magic == b"BASELOG1".as_slice() && is_within(header)
 }
 
-/// Reads a header. `Wrong` says that the source has no header there.
+/// Reads a header of 24 bytes from the front of the source. `Wrong` says that the source has no header there. After an
+/// error some bytes of the header may be taken.
 pub fn read_header<S: Source>(alloc: Global, input: &mut S) -> Result<Header, ReadErr>
     ensures bytes { Reads header_at (λ h. h) (S.left input.old) (S.left input.new) result }
     ensures interval { IfOk result (λ h. 0 < h.k) }
