@@ -1,5 +1,5 @@
 -- From what a call's parts did to what its answer is.
-use Rattle.std.proofs.Common.{◌≡◌, ℕ, Bool, true, false, cond, List, [], ◌∷◌, ◌++◌, Option, Some, None, Result, Ok, Err, refl, sym, ◌∙◌, ap, subst, drop, Bor}
+use Rattle.std.proofs.Common.{◌≡◌, ℕ, Bool, true, false, cond, List, ◌++◌, Option, Result, Ok, Err, refl, sym, ◌∙◌, ap, subst, drop, Bor}
 use Rattle.std.specs.Prelude.{IfOk, OnOk, OnErr, ◌==◌, ◌&&◌}
 use Rattle.std.proofs.lemmas.List.{append-nil}
 use Rattle.nfs2_types.specs.declared.NoMemory.{NoMemory}
@@ -13,13 +13,10 @@ use Rattle.nfs2_types.specs.declared.args.Args.{Args}
 use Rattle.nfs2_types.specs.declared.args.Sattr.{Sattr}
 use Rattle.nfs2_types.specs.Call.{Call, call_of}
 use Rattle.xdr_core.specs.Grammar.{Stop, reads_all, GivesAll}
-use Rattle.xdr_core.specs.declared.XdrErr.{XdrErr}
-use Rattle.rpc_core.specs.declared.CallHead.{CallHead}
 use Rattle.rpc_core.specs.declared.CallHead.TheVariants as heads
 use Rattle.rpc_core.specs.declared.Refusal.{Refusal}
-use Rattle.rpc_core.specs.declared.Refusal.TheVariants.{GarbageArgs}
 use Rattle.rpc_core.specs.Call.{head_in}
-use Rattle.rpc_core.specs.Reply.{refusal_text, success_text}
+use Rattle.rpc_core.specs.Reply.{success_text}
 use Rattle.nfs2_args.specs.Forms.{args_form}
 use Rattle.nfs2_results.specs.Spelling.{result_text}
 use Rattle.abs_model.specs.declared.Entry.{Entry}

@@ -1,5 +1,5 @@
 -- The results of the procedures that are built.
-use Rattle.std.proofs.Common.{◌≡◌, ◌≢◌, ℕ, Bool, true, false, cond, List, [], ◌∷◌, ◌++◌, Option, Some, None, refl, sym, ◌∙◌, ap, subst, arith}
+use Rattle.std.proofs.Common.{◌≡◌, ◌≢◌, Bool, true, false, cond, List, [], ◌∷◌, Option, Some, None, refl, ap, subst, arith}
 use Rattle.std.specs.Prelude.{is_some, map}
 use Rattle.nfs2_types.specs.declared.Limits.{Limits}
 use Rattle.nfs2_types.specs.declared.Time.{Time}
@@ -11,7 +11,6 @@ use Rattle.nfs2_types.specs.Call.{Call, null, get_attr, lookup, make_dir}
 use Rattle.nfs2_results.specs.Spelling.{HasSpelling}
 use Rattle.abs_model.specs.declared.Entry.{Entry}
 use Rattle.abs_model.specs.Array.{changed}
-use Rattle.abs_model.specs.declared.Change.{Change}
 use Rattle.abs_model.specs.Machine.{Refusal, first_of, refusals, changes, answer, effect, array_after, result_of, told}
 use Rattle.wrap_read.specs.Reads.{is_read_call}
 use Rattle.dispatch.specs.Answer.{is_built_call}

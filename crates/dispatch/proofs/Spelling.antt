@@ -1,26 +1,24 @@
 -- The answer by reading a message is the answer by what it is spelled of.
-use Rattle.std.proofs.Common.{◌≡◌, ◌≢◌, ◌≤◌, ℕ, Bool, true, false, cond, List, ◌++◌, length, drop, Option, Some, None, Result, Ok, Err, refl, sym, ◌∙◌, ap, subst, arith}
-use Rattle.std.specs.Prelude.{◌==◌, ◌||◌, nat_le}
+use Rattle.std.proofs.Common.{◌≡◌, ◌≢◌, ℕ, true, false, cond, List, length, drop, Result, Ok, Err, refl, ◌∙◌, ap, subst, arith}
+use Rattle.std.specs.Prelude.{◌==◌, nat_le}
 use Rattle.std.proofs.lemmas.Bool.Decides.{nat_tests}
 use Rattle.std.proofs.Math.Seq.{drop-append_seam}
 use Rattle.nfs2_types.specs.declared.Limits.{Limits}
 use Rattle.nfs2_types.specs.declared.Time.{Time}
 use Rattle.nfs2_types.specs.declared.Cred.{Cred}
-use Rattle.nfs2_types.specs.declared.Word.TheVariants as words
 use Rattle.nfs2_types.specs.Call.{Call}
 use Rattle.xdr_core.specs.Items.{IsBytes}
-use Rattle.xdr_core.specs.Grammar.{Spells, Stop, reads_all}
+use Rattle.xdr_core.specs.Grammar.{Stop, reads_all}
 use Rattle.xdr_core.proofs.ItemLaws.{IsBytes-drop}
 use Rattle.xdr_core.proofs.Formats.{whole_again, is_reading}
 use Rattle.rpc_core.specs.declared.CallHead.{CallHead}
 use Rattle.rpc_core.specs.declared.CallHead.TheVariants as heads
-use Rattle.rpc_core.specs.declared.Refusal.{Refusal}
 use Rattle.rpc_core.specs.declared.Refusal.TheVariants.{GarbageArgs}
-use Rattle.rpc_core.specs.Call.{Header, HasHeader, IsHead, head_in, verdict, version_of, last_of, first_failed, checks, judged, called}
+use Rattle.rpc_core.specs.Call.{Header, HasHeader, IsHead, head_in, verdict, first_failed, checks, judged}
 use Rattle.rpc_core.proofs.Heads.{is_head}
 use Rattle.nfs2_args.specs.Forms.{args_form}
 use Rattle.abs_model.specs.declared.Entry.{Entry}
-use Rattle.dispatch.specs.Answer.{Answer, answer, stays, refused, accepted, by_args}
+use Rattle.dispatch.specs.Answer.{answer, refused, by_args}
 use Rattle.dispatch.specs.Spelled.{CallsNfs, IsNoCall, AreNoArgs, IsAnswer}
 use Rattle.dispatch.proofs.Calls.{answer_silent, answer_refused, answer_called}
 

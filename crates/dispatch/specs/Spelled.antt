@@ -1,6 +1,6 @@
 -- The answer to a message by the grammars of headers and of arguments (RFC 5531, 9; RFC 1094, 2.2). Nothing here reads
 -- the bytes: it is said what a message is spelled of, and what is then answered.
-use Rattle.std.specs.Prelude.{◌≡◌, ◌≢◌, ◌≤◌, ℕ, List, length, Option, Some}
+use Rattle.std.specs.Prelude.{◌≡◌, ◌≢◌, ◌≤◌, ℕ, List, length, Some}
 use Rattle.nfs2_types.specs.declared.Limits.{Limits}
 use Rattle.nfs2_types.specs.declared.Time.{Time}
 use Rattle.nfs2_types.specs.declared.Cred.{Cred}

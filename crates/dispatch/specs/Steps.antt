@@ -13,7 +13,7 @@ use Rattle.server_trait.specs.Tree.{Tree}
 use Rattle.server_trait.specs.declared.ConfTable.{ConfTable}
 use Rattle.conf_map.specs.Stands.{Stands}
 use Rattle.conf_map.specs.Notice.{NoticedAll}
-use Rattle.dispatch.specs.Answer.{Answer, answer}
+use Rattle.dispatch.specs.Answer.{answer}
 
 -- a procedure gives the machine's result, leaves tree and table standing for its array, and tells its objects in order
 pub record Performs {M : Type 0} (told_of : M → List ℕ) (noticed : M → List Entry → ℕ → M → Type 0)

@@ -1,8 +1,7 @@
-use Rattle.std.proofs.Common.{◌≡◌, ◌∙◌, true, [], Ok, Err, sym, ap, subst, drop}
+use Rattle.std.proofs.Common.{◌≡◌, ◌∙◌, [], sym, ap, subst, drop}
 use Rattle.std.proofs.lemmas.List.{take_rest}
 use Rattle.nfs2_types.specs.Call.{call_of}
 use Rattle.rpc_core.specs.declared.CallHead.TheVariants as heads
-use Rattle.rpc_core.specs.declared.Refusal.TheVariants.{GarbageArgs}
 use Rattle.rpc_core.specs.Call.{head_in}
 use Rattle.nfs2_results.specs.Spelling.{HasSpelling}
 use Rattle.abs_model.proofs.Law.{stays_valid}
