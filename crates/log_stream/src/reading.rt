@@ -1,6 +1,6 @@
 //! Items of a log from a source, of which never more than the item in hand is read.
 
-ghost use Rattle.std.specs.Prelude.{◌≡◌, ◌<◌, ◌≤◌, ◌^◌, ◌==◌, ◌&&◌, nat_le, length, vec_len, List, ℕ, IfOk};
+ghost use Rattle.std.specs.Prelude.{true, ◌≡◌, ◌<◌, ◌≤◌, ◌^◌, ◌==◌, ◌&&◌, nat_le, length, vec_len, List, ℕ, IfOk};
 ghost use Rattle.std.specs.Prelude.{codes};
 ghost use Rattle.std.specs.List.{list_all};
 ghost use Rattle.std.specs.Str.{bytes_eq};
@@ -185,6 +185,7 @@ fn is_header(magic: &[u8], header: &Header) -> bool
 /// error some bytes of the header may be taken.
 pub fn read_header<S: Source>(alloc: Global, input: &mut S) -> Result<Header, ReadErr>
     ensures bytes { Reads header_at (λ h. h) (S.left input.old) (S.left input.new) result }
+    ensures within { IfOk result (λ h. is_within_limits h ≡ true) }
     ensures interval { IfOk result (λ h. 0 < h.k) }
     ensures cause { ReadHasCause (S.faults input.old) (S.faults input.new) result }
 {
