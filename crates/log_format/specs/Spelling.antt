@@ -1,4 +1,5 @@
--- The one spelling of a header and of a record, apart from how they are read: words and opaque data (RFC 4506, 4.1 and 4.10).
+-- The one spelling of a header and of a record, apart from how they are read: words and opaque data
+-- (RFC 4506, 4.1 and 4.10).
 use Rattle.std.specs.Prelude.{ℕ, ◌^◌, ◌<◌, ◌≤◌, List, [], ◌∷◌, ◌++◌, length, replicate, codes, slice_index}
 use Rattle.log_format.specs.declared.event.Event.{Event}
 use Rattle.log_format.specs.declared.event.Event.TheVariants.{Request, RunAll, End, Unbuilt}
@@ -19,14 +20,17 @@ header_text h = codes "BASELOG1" ++ words (h.f ∷ h.n ∷ h.k ∷ h.t ∷ [])
 
 -- the kind of a record and its fields; a record that is not built yet has no spelling here
 abbrev pub record_text : Event → List ℕ
-record_text (Request client time bytes) = words (1 ∷ client ∷ time.secs ∷ time.micros ∷ []) ++ opaque_text bytes
+record_text (Request client time bytes) =
+    words (1 ∷ client ∷ time.secs ∷ time.micros ∷ []) ++ opaque_text bytes
 record_text RunAll = words (3 ∷ [])
 record_text End = words (14 ∷ [])
 record_text Unbuilt = []
 
--- what has a spelling: words are below 2 ^ 32, microseconds below 1,000,000, and a call is at most 65,536 bytes
+-- what has a spelling: words are below 2 ^ 32, microseconds below 1,000,000, and a call has
+-- at most 65,536 bytes
 abbrev pub HasText : Event → Type 0
-HasText (Request client time bytes) = (client < 2 ^ 32) × (time.secs < 2 ^ 32) × (time.micros < 1000000) × (length bytes ≤ 65536)
+HasText (Request client time bytes) =
+    (client < 2 ^ 32) × (time.secs < 2 ^ 32) × (time.micros < 1000000) × (length bytes ≤ 65536)
 HasText RunAll = Unit {0}
 HasText End = Unit {0}
 HasText Unbuilt = ⊥

@@ -7,7 +7,8 @@ ghost use Rattle.log_format.specs.declared.header.Header.{Header};
 ghost use Rattle.log_format.specs.Records.{header_at, is_within, record_at, record_len};
 ghost use Rattle.log_format.specs.Spelling.{IsBytes, HasText, header_text, record_text};
 
-/// What is read as a header is spelled as it, and its spelling is read as it again, whatever follows.
+/// What is read as a header is spelled as it, and its spelling is read as it again, whatever
+/// follows. So no spelling of a header begins another.
 pub fn headers_are_their_spellings()
     ensures spelled { (bytes rest : List ℕ) (h : Header) → IsBytes bytes
         → header_at bytes ≡ Some (h, rest)
@@ -20,8 +21,8 @@ pub fn headers_are_their_spellings()
         → (h ≡ other) × (rest ≡ behind) }
 {}
 
-/// What is read as a record that is built is spelled as it, and its spelling is read as it again, whatever follows. So
-/// no spelling of a record begins another.
+/// What is read as a record that is built is spelled as it, and its spelling is read as it again,
+/// whatever follows. So no spelling of a record begins another.
 pub fn records_are_their_spellings()
     ensures spelled { (bytes rest : List ℕ) (e : Event) → IsBytes bytes
         → record_at bytes ≡ Some (e, rest) → e ≢ Unbuilt
@@ -33,7 +34,7 @@ pub fn records_are_their_spellings()
         → (e ≡ other) × (rest ≡ behind) }
 {}
 
-/// A header takes 24 bytes, and a record, also one that is not built yet, as many as `record_len` says.
+/// A header takes 24 bytes, and a record as many as `record_len` says, also one not built yet.
 pub fn lengths_are_told()
     ensures header { (bytes rest : List ℕ) (h : Header) → header_at bytes ≡ Some (h, rest)
         → length bytes ≡ 24 + length rest }

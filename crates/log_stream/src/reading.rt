@@ -1,7 +1,6 @@
 //! Items of a log from a source, of which never more than the item in hand is read.
 
-ghost use Rattle.std.specs.Prelude.{true, ◌≡◌, ◌<◌, ◌≤◌, ◌^◌, ◌==◌, ◌&&◌, nat_le, length, vec_len, List, ℕ, IfOk};
-ghost use Rattle.std.specs.Prelude.{codes};
+ghost use Rattle.std.specs.Prelude.{◌≡◌, ◌<◌, ◌≤◌, ◌^◌, ◌==◌, ◌&&◌, true, nat_le, length, vec_len, List, ℕ, IfOk, codes};
 ghost use Rattle.std.specs.List.{list_all};
 ghost use Rattle.std.specs.Str.{bytes_eq};
 ghost use Rattle.log_format.specs.Items.{piece_at, word_at, opaque_at};
@@ -153,8 +152,8 @@ pub fn record_len(event: &Event) -> u64
     }
 }
 
-/// Reads a record from the front of the source, and not a byte behind it. `Wrong` says that the source has no record
-/// there. After an error some bytes of the record may be taken.
+/// Reads a record from the front of the source, and not a byte behind it. `Wrong` says that the source
+/// has no record there. After an error some bytes of the record may be taken.
 pub fn read_record<S: Source>(alloc: Global, input: &mut S) -> Result<Event, ReadErr>
     ensures bytes { Reads record_at (λ e. e) (S.left input.old) (S.left input.new) result }
     ensures len { IfOk result (λ e. len_of e ≤ 65560) }
@@ -181,8 +180,8 @@ fn is_header(magic: &[u8], header: &Header) -> bool
     magic == b"BASELOG1".as_slice() && is_within(header)
 }
 
-/// Reads a header of 24 bytes from the front of the source. `Wrong` says that the source has no header there. After an
-/// error some bytes of the header may be taken.
+/// Reads a header of 24 bytes from the front of the source. `Wrong` says that the source has no header
+/// there. After an error some bytes of the header may be taken.
 pub fn read_header<S: Source>(alloc: Global, input: &mut S) -> Result<Header, ReadErr>
     ensures bytes { Reads header_at (λ h. h) (S.left input.old) (S.left input.new) result }
     ensures within { IfOk result (λ h. is_within_limits h ≡ true) }

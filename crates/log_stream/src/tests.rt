@@ -9,7 +9,7 @@ use outside::{MemSink, MemSource, Sink, SinkErr, Source};
 use std::alloc::{AllocError, Global};
 use std::test::Fail;
 
-/// A header, a request with a call of five bytes, a RunAll, a record that is not built yet, and an End.
+/// A header, a request with a call of five bytes, a RunAll, a record that is not built yet, an End.
 const LOG: &[u8] = b"BASELOG1\0\0\0\x01\0\0\x10\0\0\0\x04\0\0\x01\0\0\
 \0\0\0\x01\0\0\0\x07\0\0\x03\xe8\0\x0f\x42\x3f\0\0\0\x05hello\0\0\0\
 \0\0\0\x03\
