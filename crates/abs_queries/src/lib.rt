@@ -12,3 +12,6 @@ pub mod seen;
 mod validity;
 
 pub use validity::is_valid;
+
+#[cfg(test)]
+mod tests;

@@ -109,7 +109,8 @@ impl Cluster {
 
     /// How many requests there are.
     pub fn asked(&self) -> usize
-        ensures { result ≡ length self.now.requests }
+        ensures length { result ≡ length self.now.requests }
+        ensures few { result ≤ 1000000 }
     {
         self.requests.len()
     }

@@ -13,7 +13,7 @@ ghost use Rattle.conf_map.specs.Tables.{IsLive};
 use crate::ask::{attr_of, find};
 use crate::table::{Located, index_of, locate};
 use nfs2_types::{Handle, Kind, Stat, is_bad, stat};
-use server_trait::{ConfTable, FileServer, NodeAttr, Srv, WrapErr};
+use server_trait::{ConfTable, NodeAttr, Srv, WrapErr};
 
 /// Whether these are attributes of a directory.
 fn is_dir_attr(attr: &NodeAttr) -> bool

@@ -12,7 +12,7 @@ ghost use Rattle.conf_map.specs.Tables.{IsLive};
 use crate::ask::attr_of;
 use crate::table::Located;
 use nfs2_types::{Fattr, Kind, NfsResult, Oid, handle_of};
-use server_trait::{ConfEntry, ConfTable, FileServer, NodeAttr, Srv, WrapErr};
+use server_trait::{ConfEntry, ConfTable, NodeAttr, Srv, WrapErr};
 
 /// The words of fattr with these four, which go by the kind of object (RFC 1094, 2.3.5).
 fn fattr_words(

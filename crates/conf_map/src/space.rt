@@ -10,7 +10,7 @@ ghost use Rattle.conf_map.specs.Stands.{StandValid};
 
 use crate::ask::attr_of;
 use nfs2_types::Kind;
-use server_trait::{ConfTable, FileServer, NodeAttr, Srv, WrapErr};
+use server_trait::{ConfTable, NodeAttr, Srv, WrapErr};
 
 /// The bytes that a node uses: 512 for each name of a directory, else those of a file or of a link's text.
 fn used_of(attr: &NodeAttr) -> u64

@@ -2,6 +2,7 @@
 
 ghost use Rattle.std.specs.Prelude.{◌≡◌, ◌<◌, ◌^◌, ◌&&◌, not, if◌then◌else◌, length, position, slice_get, slice_set, IfSome, OnErr, OnOk, Some, None, List, ℕ};
 ghost use Rattle.server_trait.specs.declared.bench.ConfEntry.{ConfEntry};
+ghost use Rattle.conf_map.specs.Stands.{handle_at};
 ghost use Rattle.conf_map.specs.Tables.{live_in, located, index_in, is_free_row, null_row, touched, has_handle, IsInStep, IsUnshared, IsSameTable};
 
 use nfs2_types::{Handle, NoMemory, Oid, Time, oid_of};
@@ -140,6 +141,8 @@ pub fn touch_row(table: &mut ConfTable, index: u32, time: Time)
     requires { index < length table.old.rows.items }
     ensures row { (r : ConfEntry) → slice_get table.old.rows.items index ≡ Some r →
         table.new.rows.items ≡ slice_set table.old.rows.items index (touched time r) }
+    ensures size { length table.new.rows.items ≡ length table.old.rows.items }
+    ensures handles { (i : ℕ) → handle_at table.new.rows.items i ≡ handle_at table.old.rows.items i }
     ensures by_handle { table.new.by_handle ≡ table.old.by_handle }
     ensures in_step { IsInStep table.old → IsInStep table.new }
 {

@@ -1,4 +1,5 @@
--- Items of XDR at the front of some bytes (RFC 4506, 4): reading gives the value and the bytes behind it.
+-- Items of XDR at the front of some bytes (RFC 4506, 4.1 and 4.10): reading gives the value and
+-- the bytes behind it.
 use Rattle.std.specs.Prelude.{ℕ, ◌-◌, ◌%◌, ◌==◌, List, length, take, drop, Option, Some, None, nat_lt, if◌then◌else◌}
 use Rattle.std.specs.List.{flat_map, list_all}
 use Rattle.std.specs.Int.{w32, from_be_bytes, to_be_bytes}

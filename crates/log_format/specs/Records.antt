@@ -1,8 +1,7 @@
--- The grammar of a log: a header and records, whose fields are items of XDR (RFC 4506). Reading takes a value from
--- the front of some bytes and gives the bytes behind it.
+-- The grammar of a log: a header and records, whose fields are items of XDR (RFC 4506). Reading takes
+-- a value from the front of some bytes and gives the bytes behind it.
 use Rattle.std.specs.Prelude.{ℕ, ◌+◌, ◌==◌, ◌&&◌, ◌||◌, nat_le, Bool, List, length, codes, Option, Some, None, if◌then◌else◌}
 use Rattle.std.specs.Str.{bytes_eq}
-use Rattle.nfs2_types.specs.declared.Time.{Time}
 use Rattle.log_format.specs.declared.event.Event.{Event}
 use Rattle.log_format.specs.declared.event.Event.TheVariants.{Request, RunAll, End, Unbuilt}
 use Rattle.log_format.specs.declared.header.Header.{Header}
@@ -11,8 +10,8 @@ use Rattle.log_format.specs.Items.{◌>>=◌, word_at, piece_at, opaque_at, padd
 -- the numbers of a header are within their limits
 abbrev pub is_within : Header → Bool
 is_within h =
-    nat_le h.f 2 && (h.n == 16 || (h.n == 256 || h.n == 4096)) && (nat_le 1 h.k && nat_le h.k 1024) &&
-    (nat_le 512 h.t && nat_le h.t 16777216)
+    nat_le h.f 2 && (h.n == 16 || (h.n == 256 || h.n == 4096)) &&
+    (nat_le 1 h.k && nat_le h.k 1024) && (nat_le 512 h.t && nat_le h.t 16777216)
 
 -- eight letters and four words
 unfoldable pub header_at : List ℕ → Option (Header × List ℕ)

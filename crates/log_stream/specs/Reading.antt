@@ -9,30 +9,40 @@ use Rattle.log_stream.specs.declared.fault.ReadErr.TheVariants.{Failed, NoMemory
 abbrev pub Spells : {Y : Type 0} → (List ℕ → Option (Y × List ℕ)) → List ℕ → Y → Type 0
 Spells read taken y = (more : List ℕ) → read (taken ++ more) ≡ Some (y, more)
 
--- Why nothing was read: what was taken does not spell it, and where it is wrong, nor does it with what the source has left.
-abbrev pub Refuses : {Y : Type 0} → (List ℕ → Option (Y × List ℕ)) → List ℕ → Option (List ℕ) → ReadErr → Type 0
+-- Why nothing was read: what was taken does not spell it, and where it is wrong, nor does it with
+-- what the source has left.
+abbrev pub Refuses : {Y : Type 0} → (List ℕ → Option (Y × List ℕ)) → List ℕ → Option (List ℕ)
+    → ReadErr → Type 0
 Refuses read taken left Failed = read taken ≡ None
 Refuses read taken left NoMemory = Unit {0}
-Refuses read taken left Wrong = (read taken ≡ None) × IfSome left (λ more. read (taken ++ more) ≡ None)
+Refuses read taken left Wrong =
+    (read taken ≡ None) × IfSome left (λ more. read (taken ++ more) ≡ None)
 
-abbrev pub Outcome : {X Y : Type 0} → (List ℕ → Option (Y × List ℕ)) → (X → Y) → List ℕ → Option (List ℕ) → Result X ReadErr → Type 0
+-- what a result says: what was taken spells the value that it stands for, or an error has its cause
+abbrev pub Outcome : {X Y : Type 0} → (List ℕ → Option (Y × List ℕ)) → (X → Y) → List ℕ
+    → Option (List ℕ) → Result X ReadErr → Type 0
 Outcome read view taken left (Ok x) = Spells read taken (view x)
 Outcome read view taken left (Err e) = Refuses read taken left e
 
--- A source with these bytes left handed out some, and was left with the others; the result is what reading gives.
-pub record Reads {X Y : Type 0} (read : List ℕ → Option (Y × List ℕ)) (view : X → Y) (old new : Option (List ℕ)) (result : Result X ReadErr) : Type 0 where
+-- A source with these bytes left handed out some, and was left with the others; the result is what
+-- reading gives.
+pub record Reads {X Y : Type 0} (read : List ℕ → Option (Y × List ℕ)) (view : X → Y)
+    (old new : Option (List ℕ)) (result : Result X ReadErr) : Type 0 where
   pub taken : List ℕ
   pub consumed : Consumes old new taken
   pub outcome : Outcome read view taken new result
 
 -- What filling a buffer takes from a source: it ends with these bytes, or too few were got.
-abbrev pub FillOutcome : {X : Type 0} → List ℕ → List ℕ → Option (List ℕ) → Result X ReadErr → Type 0
+abbrev pub FillOutcome : {X : Type 0} → List ℕ → List ℕ → Option (List ℕ) → Result X ReadErr
+    → Type 0
 FillOutcome buf taken left (Ok x) = taken ≡ buf
 FillOutcome buf taken left (Err Failed) = length taken < length buf
 FillOutcome buf taken left (Err Wrong) = (length taken < length buf) × IsAtEnd left
 FillOutcome buf taken left (Err NoMemory) = ⊥
 
-pub record Fills {X : Type 0} (old new : Option (List ℕ)) (buf : List ℕ) (result : Result X ReadErr) : Type 0 where
+-- a source handed out some bytes to a buffer, which now is `buf`
+pub record Fills {X : Type 0} (old new : Option (List ℕ)) (buf : List ℕ) (result : Result X ReadErr)
+    : Type 0 where
   pub taken : List ℕ
   pub consumed : Consumes old new taken
   pub outcome : FillOutcome buf taken new result

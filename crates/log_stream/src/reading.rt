@@ -1,7 +1,6 @@
 //! Items of a log from a source, of which never more than the item in hand is read.
 
-ghost use Rattle.std.specs.Prelude.{◌≡◌, ◌<◌, ◌≤◌, ◌^◌, ◌==◌, ◌&&◌, nat_le, length, vec_len, List, ℕ, IfOk};
-ghost use Rattle.std.specs.Prelude.{codes};
+ghost use Rattle.std.specs.Prelude.{◌≡◌, ◌<◌, ◌≤◌, ◌^◌, ◌==◌, ◌&&◌, true, nat_le, length, vec_len, List, ℕ, IfOk, codes};
 ghost use Rattle.std.specs.List.{list_all};
 ghost use Rattle.std.specs.Str.{bytes_eq};
 ghost use Rattle.log_format.specs.Items.{piece_at, word_at, opaque_at};
@@ -16,6 +15,9 @@ use std::alloc::Global;
 
 /// The most bytes of a call.
 const MOST_CALL: u32 = 65536;
+
+/// The microseconds of a second.
+const SECOND: u32 = 1_000_000;
 
 /// The kinds of records.
 const REQUEST: u32 = 1;
@@ -98,7 +100,7 @@ fn read_request<S: Source>(alloc: Global, input: &mut S) -> Result<Event, ReadEr
     let client = read_word(input)?;
     let secs = read_word(input)?;
     let micros = read_word(input)?;
-    if micros >= 1_000_000 {
+    if micros >= SECOND {
         return Err(ReadErr::Wrong);
     }
     let bytes = read_opaque(alloc, MOST_CALL, input)?;
@@ -136,7 +138,7 @@ fn read_fields<S: Source>(alloc: Global, kind: u32, input: &mut S) -> Result<Eve
     }
 }
 
-/// How many bytes a record takes.
+/// How many bytes a record takes in a log.
 pub fn record_len(event: &Event) -> u64
     requires { len_of event.now < 2 ^ 64 }
     ensures { result ≡ len_of event.now }
@@ -150,7 +152,8 @@ pub fn record_len(event: &Event) -> u64
     }
 }
 
-/// Reads a record. `Wrong` says that the source has no record there.
+/// Reads a record from the front of the source, and not a byte behind it. `Wrong` says that the source
+/// has no record there. After an error some bytes of the record may be taken.
 pub fn read_record<S: Source>(alloc: Global, input: &mut S) -> Result<Event, ReadErr>
     ensures bytes { Reads record_at (λ e. e) (S.left input.old) (S.left input.new) result }
     ensures len { IfOk result (λ e. len_of e ≤ 65560) }
@@ -177,9 +180,11 @@ fn is_header(magic: &[u8], header: &Header) -> bool
     magic == b"BASELOG1".as_slice() && is_within(header)
 }
 
-/// Reads a header. `Wrong` says that the source has no header there.
+/// Reads a header of 24 bytes from the front of the source. `Wrong` says that the source has no header
+/// there. After an error some bytes of the header may be taken.
 pub fn read_header<S: Source>(alloc: Global, input: &mut S) -> Result<Header, ReadErr>
     ensures bytes { Reads header_at (λ h. h) (S.left input.old) (S.left input.new) result }
+    ensures within { IfOk result (λ h. is_within_limits h ≡ true) }
     ensures interval { IfOk result (λ h. 0 < h.k) }
     ensures cause { ReadHasCause (S.faults input.old) (S.faults input.new) result }
 {

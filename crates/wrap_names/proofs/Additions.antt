@@ -9,17 +9,16 @@ use Rattle.std.proofs.lemmas.Option.{slice_get_read, slice_get_within}
 use Rattle.std.proofs.lemmas.List.Quantifiers.{position-Some}
 use Rattle.std.proofs.lemmas.List.{length-set}
 use Rattle.nfs2_types.specs.declared.Time.{Time}
-use Rattle.server_trait.specs.Tree.{Tree, Server, Node, Names, Content, BytesOf, TextOf, NamesOf, node_at, names_at, names_in, with_names, used}
+use Rattle.server_trait.specs.Tree.{Tree, Server, Node, Names, node_at, names_at, names_in, used}
 use Rattle.server_trait.specs.Step.{LacksName}
 use Rattle.server_trait.proofs.TreeLaws.{some_and, is_some_and, some_none, some_same, one_or_not, slice_get-along, names_at-node, get-insert_same, get-insert_other}
 use Rattle.server_trait.specs.declared.bench.ConfEntry.{ConfEntry}
 use Rattle.server_trait.specs.declared.bench.ConfTable.{ConfTable}
 use Rattle.abs_model.specs.declared.entry.Attr.{Attr}
 use Rattle.abs_model.specs.declared.entry.NameRow.{NameRow}
-use Rattle.abs_model.specs.declared.entry.Object.{Object}
-use Rattle.abs_model.specs.declared.entry.Object.TheVariants.{Null, File, Dir, Link}
+use Rattle.abs_model.specs.declared.entry.Object.TheVariants.{Dir}
 use Rattle.abs_model.specs.declared.entry.Entry.{Entry}
-use Rattle.abs_model.specs.Objects.{is_null, is_dir, names_of, attr_of, row_of, placed, written_at}
+use Rattle.abs_model.specs.Objects.{is_null, names_of, attr_of, row_of, placed, written_at}
 use Rattle.abs_model.specs.Array.{entry_at, null_entry, can_take}
 use Rattle.abs_model.specs.Machine.{row_to, made}
 use Rattle.abs_model.specs.Machine as machine
@@ -40,33 +39,8 @@ use Rattle.conf_map.proofs.Targets.{dir_map, lacks_agrees}
 use Rattle.wrap_names.specs.declared.place.Place.{Place}
 use Rattle.wrap_names.specs.declared.make.NewNode.{NewNode}
 use Rattle.wrap_names.specs.Places.{CanAdd}
+use Rattle.wrap_names.proofs.ByKind.{null_object, dir_parts, names_named}
 use Rattle.wrap_names.specs.News.{IsMade, IsAdded, AddsRow, empty_dir, with_dir}
-
--- ENTRIES AND ROWS
-
--- a null entry's object
-null_object : (o : Object) (g : ℕ) → is_null (record { generation = g; object = o }) ≡ true → o ≡ Null
-null_object Null g is = refl
-null_object (File a b) g is = absurd (let bad : false ≡ true = is in cc)
-null_object (Dir a b) g is = absurd (let bad : false ≡ true = is in cc)
-null_object (Link a b) g is = absurd (let bad : false ≡ true = is in cc)
-
--- a directory is its attributes and its names
-dir_parts : (g : ℕ) (o : Object) → is_dir (record { generation = g; object = o }) ≡ true → o ≡ Dir (attr_of (record { generation = g; object = o })) (names_of (record { generation = g; object = o }))
-dir_parts g Null is = absurd (let bad : false ≡ true = is in cc)
-dir_parts g (File a b) is = absurd (let bad : false ≡ true = is in cc)
-dir_parts g (Dir a b) is = refl
-dir_parts g (Link a b) is = absurd (let bad : false ≡ true = is in cc)
-
--- a name in a directory's map, whether the map is known or not
-names_named : (c : Content) (m : Names) (name h : List ℕ) (n : Node) → n.content ≡ c → names_in c ≡ Some m → with_names (λ k. insert k name h) n ≡ with_names (λ _. insert m name h) n
-names_named (BytesOf b) m name h n same is = absurd (some_none is refl)
-names_named (TextOf b) m name h n same is = absurd (some_none is refl)
-names_named (NamesOf k) m name h n same is =
-    let e : k ≡ m = some_same refl is ∙ some_same is refl ∙ some_same refl is in
-    ap (λ c. with_names (λ k. insert k name h) (record n { content = c })) same
-    ∙ ap (λ k. let new : Node = record n { content = NamesOf (insert k name h) } in new) e
-    ∙ sym (ap (λ c. with_names (λ _. insert m name h) (record n { content = c })) same)
 
 -- WHAT A NEW DIRECTORY ASKS
 

@@ -18,13 +18,14 @@ use Rattle.abs_model.specs.Objects.{new_attr}
 use Rattle.abs_model.specs.Machine.{node_at, array_after, result_of, told}
 use Rattle.abs_model.specs.Valid.{Valid}
 use Rattle.abs_model.proofs.Law.{stays_valid}
+use Rattle.conf_map.proofs.Answered as answers
 use Rattle.conf_map.specs.Notice.{NoticedAll}
 use Rattle.conf_map.specs.Stands.{StandsValid, StandValid, AreWithin, HasRoom, Stands}
 use Rattle.conf_map.specs.declared.table.Located.{Located}
 use Rattle.wrap_names.specs.declared.place.Place.{Place}
 use Rattle.wrap_names.specs.Places.{refused, PlaceFound, IsPlace, CanAdd}
 use Rattle.wrap_names.specs.News.{IsAdded, with_dir}
-use Rattle.wrap_names.proofs.Refusals.{refused_result, refused_array, refused_told, array_is, told_are, result_is}
+use Rattle.wrap_names.proofs.Refusals.{array_is, told_are, result_is}
 
 module _ (limits : Limits) (s : Option Tree) (table : ConfTable) (cred : Cred) (t : Time) (dir name : List ℕ) (sattr : Sattr) (r : Result Place Stat)
     (found : (A : List Entry) → StandsValid limits s table A → PlaceFound A limits table.rows.items dir name r) where
@@ -34,16 +35,16 @@ module _ (limits : Limits) (s : Option Tree) (table : ConfTable) (cred : Cred) (
 
     -- a refused call answers with its status
     pub refusal_answers : results.Refused stat ≡ result_of A limits cred t (make_dir dir name sattr)
-    refusal_answers = sym (refused_result A limits cred t dir name sattr stat first)
+    refusal_answers = sym (answers.refused A limits cred t (make_dir dir name sattr) stat first)
 
     pub refusal_stands : (s' : Option Tree) → s' ≡ s → Stands s' table (array_after A limits cred t (make_dir dir name sattr))
-    refusal_stands s' same = subst (λ s. Stands s table (array_after A limits cred t (make_dir dir name sattr))) (sym same) (subst (Stands s table) (sym (refused_array A limits cred t dir name sattr stat first)) k.stands)
+    refusal_stands s' same = subst (λ s. Stands s table (array_after A limits cred t (make_dir dir name sattr))) (sym same) (subst (Stands s table) (sym (answers.refused_array A limits cred t (make_dir dir name sattr) stat first)) k.stands)
 
     pub refusal_told : (old : List ℕ) → old ≡ old ++ told A limits cred t (make_dir dir name sattr)
-    refusal_told old = sym (append-nil old) ∙ ap (λ l. old ++ l) (sym (refused_told A limits cred t dir name sattr stat first))
+    refusal_told old = sym (append-nil old) ∙ ap (λ l. old ++ l) (sym (answers.refused_told A limits cred t (make_dir dir name sattr) stat first))
 
     pub refusal_noticed : {M : Type 0} (noticed : M → List Entry → ℕ → M → Type 0) (saver : M) → NoticedAll noticed A saver (told A limits cred t (make_dir dir name sattr)) saver
-    refusal_noticed noticed saver = subst (λ l. NoticedAll noticed A saver l saver) (sym (refused_told A limits cred t dir name sattr stat first)) refl
+    refusal_noticed noticed saver = subst (λ l. NoticedAll noticed A saver l saver) (sym (answers.refused_told A limits cred t (make_dir dir name sattr) stat first)) refl
 
   module _ (p : Place) (is : r ≡ Ok p) where
     place : (A : List Entry) → StandsValid limits s table A → IsPlace A limits table.rows.items dir name p
@@ -78,18 +79,19 @@ module _ (limits : Limits) (s : Option Tree) (table : ConfTable) (cred : Cred) (
         array : array_after A limits cred t (make_dir dir name sattr) ≡ with_dir A p name t (new_attr 493 cred t sattr)
         array = array_is A limits cred t dir name sattr table.rows.items p (place A k)
 
-        -- tree and table stand for a valid array again
-        pub making_again : AreWithin limits → is_time t ≡ true → call_fits (make_dir dir name sattr) ≡ true → StandValid s' table' (with_dir A p name t (new_attr 493 cred t sattr))
-        making_again within moment fits = record {
-          limits = limits;
-          within = within;
-          valid = subst (Valid limits) array (stays_valid limits A cred t (make_dir dir name sattr) moment fits k.valid);
-          stands = is_added.stands;
-        }
-
         pub making_stands : (s'' : Option Tree) → s'' ≡ s' → Stands s'' table' (array_after A limits cred t (make_dir dir name sattr))
         making_stands s'' same = subst (λ s. Stands s table' (array_after A limits cred t (make_dir dir name sattr))) (sym same) (subst (Stands s' table') (sym array) is_added.stands)
 
-        -- the call answers with the new directory
-        pub making_answers : (node : NfsResult) → node ≡ node_at (with_dir A p name t (new_attr 493 cred t sattr)) d.index → node ≡ result_of A limits cred t (make_dir dir name sattr)
-        making_answers node shown = shown ∙ ap (node_at (with_dir A p name t (new_attr 493 cred t sattr))) is_added.index ∙ sym (result_is A limits cred t dir name sattr table.rows.items p (place A k))
+        module _ (within : AreWithin limits) (moment : is_time t ≡ true) (fits : call_fits (make_dir dir name sattr) ≡ true) where
+          -- tree and table stand for a valid array again
+          pub making_again : StandValid s' table' (with_dir A p name t (new_attr 493 cred t sattr))
+          making_again = record {
+            limits = limits;
+            within = within;
+            valid = subst (Valid limits) array (stays_valid limits A cred t (make_dir dir name sattr) moment fits k.valid);
+            stands = is_added.stands;
+          }
+
+          -- the call answers with the new directory
+          pub making_answers : (node : NfsResult) → ((A : List Entry) → StandValid s' table' A → node ≡ node_at A d.index) → node ≡ result_of A limits cred t (make_dir dir name sattr)
+          making_answers node shown = shown _ making_again ∙ ap (node_at (with_dir A p name t (new_attr 493 cred t sattr))) is_added.index ∙ sym (result_is A limits cred t dir name sattr table.rows.items p (place A k))

@@ -1,6 +1,6 @@
 //! A new directory: its node, its row, and the times of the directory that names it.
 
-ghost use Rattle.std.specs.Prelude.{◌≡◌, ◌<◌, ◌^◌, ◌-◌, ◌+◌, ℕ, List, Option, Some, true, length, slice_get, slice_set, IsSomeAnd, IfOk, OnOk};
+ghost use Rattle.std.specs.Prelude.{◌≡◌, ◌<◌, List, Some, true, length, IsSomeAnd, IfOk, OnOk};
 ghost use Rattle.nfs2_types.specs.Names.{is_name};
 ghost use Rattle.server_trait.specs.Tree.{Tree};
 ghost use Rattle.server_trait.specs.Step.{LacksName};
@@ -82,7 +82,8 @@ fn add_row(
     Ok(())
 }
 
-/// Makes a directory in its place. Where no mode is given it has 0755, and where no owners are, those of the caller.
+/// Makes a directory in its place. Where no mode is given it has 0755, and where no uid or gid is,
+/// that of the caller.
 pub fn add_dir(
     server: &mut Srv,
     table: &mut ConfTable,
@@ -93,8 +94,10 @@ pub fn add_dir(
     sattr: &Sattr,
 ) -> Result<Located, WrapErr>
     requires { (A : List Entry) × CanAdd (state server.old) table.old A name.now place.now }
-    ensures added { IfOk result (λ at. (A : List Entry) → CanAdd (state server.old) table.old A name.now place.now →
-        IsAdded A place.now name.now time (new_attr 493 cred.now time sattr.now) (state server.new).tree table.new at) }
+    ensures added { IfOk result (λ at. (A : List Entry) →
+        CanAdd (state server.old) table.old A name.now place.now →
+        IsAdded A place.now name.now time (new_attr 493 cred.now time sattr.now)
+        (state server.new).tree table.new at) }
     ensures watched { Watched (state server.old) (state server.new) result }
 {
     let mode = sattr.mode.unwrap_or(0o755);

@@ -28,19 +28,27 @@ fn make_dir<M: Modify>(
     sattr: &Sattr,
     saver: &mut M,
 ) -> Result<NfsResult, WrapErr>
-    requires stands { (A : List Entry) × StandsValid limits.now (state server.old).tree table.old A }
+    requires stands { (A : List Entry)
+        × StandsValid limits.now (state server.old).tree table.old A }
     requires within { AreWithin limits.now }
     requires room { HasRoom limits.now (state server.old).limits }
     requires time { is_time time ≡ true }
     requires fits { call_fits (make_dir dir.now name.now sattr.now) ≡ true }
-    ensures answers { IfOk result (λ r. (A : List Entry) → StandsValid limits.now (state server.old).tree table.old A →
+    ensures answers { IfOk result (λ r. (A : List Entry) →
+        StandsValid limits.now (state server.old).tree table.old A →
         r ≡ result_of A limits.now cred.now time (make_dir dir.now name.now sattr.now)) }
-    ensures stands { OnOk result ((A : List Entry) → StandsValid limits.now (state server.old).tree table.old A →
-        Stands (state server.new).tree table.new (array_after A limits.now cred.now time (make_dir dir.now name.now sattr.now))) }
-    ensures told { OnOk result ((A : List Entry) → StandsValid limits.now (state server.old).tree table.old A →
-        M.told saver.new ≡ M.told saver.old ++ told A limits.now cred.now time (make_dir dir.now name.now sattr.now)) }
-    ensures noticed { OnOk result ((A : List Entry) → StandsValid limits.now (state server.old).tree table.old A →
-        NoticedAll M.noticed A saver.old (told A limits.now cred.now time (make_dir dir.now name.now sattr.now)) saver.new) }
+    ensures stands { OnOk result ((A : List Entry) →
+        StandsValid limits.now (state server.old).tree table.old A →
+        Stands (state server.new).tree table.new
+        (array_after A limits.now cred.now time (make_dir dir.now name.now sattr.now))) }
+    ensures told { OnOk result ((A : List Entry) →
+        StandsValid limits.now (state server.old).tree table.old A →
+        M.told saver.new ≡ M.told saver.old
+        ++ told A limits.now cred.now time (make_dir dir.now name.now sattr.now)) }
+    ensures noticed { OnOk result ((A : List Entry) →
+        StandsValid limits.now (state server.old).tree table.old A →
+        NoticedAll M.noticed A saver.old
+        (told A limits.now cred.now time (make_dir dir.now name.now sattr.now)) saver.new) }
     ensures watched { Watched (state server.old) (state server.new) result }
 {
     let place = match place_of(server, table, limits, dir, name)? {
@@ -53,8 +61,8 @@ fn make_dir<M: Modify>(
     Ok(node)
 }
 
-/// Does a call that changes names, and tells `saver` of each object before the first change. After an error server and
-/// table stand for nothing: `Down` where the server failed.
+/// Does a call that changes names, and tells `saver` of each object before the first change.
+/// After `Down`, where the server failed, and after `NoMemory` server and table stand for nothing.
 pub fn names_proc<M: Modify>(
     server: &mut Srv,
     table: &mut ConfTable,
@@ -64,20 +72,28 @@ pub fn names_proc<M: Modify>(
     args: &Args,
     saver: &mut M,
 ) -> Result<NfsResult, WrapErr>
-    requires stands { (A : List Entry) × StandsValid limits.now (state server.old).tree table.old A }
+    requires stands { (A : List Entry)
+        × StandsValid limits.now (state server.old).tree table.old A }
     requires within { AreWithin limits.now }
     requires room { HasRoom limits.now (state server.old).limits }
     requires time { is_time time ≡ true }
     requires call { is_names_call (call_of args.now) ≡ true }
     requires fits { call_fits (call_of args.now) ≡ true }
-    ensures answers { IfOk result (λ r. (A : List Entry) → StandsValid limits.now (state server.old).tree table.old A →
+    ensures answers { IfOk result (λ r. (A : List Entry) →
+        StandsValid limits.now (state server.old).tree table.old A →
         r ≡ result_of A limits.now cred.now time (call_of args.now)) }
-    ensures stands { OnOk result ((A : List Entry) → StandsValid limits.now (state server.old).tree table.old A →
-        Stands (state server.new).tree table.new (array_after A limits.now cred.now time (call_of args.now))) }
-    ensures told { OnOk result ((A : List Entry) → StandsValid limits.now (state server.old).tree table.old A →
-        M.told saver.new ≡ M.told saver.old ++ told A limits.now cred.now time (call_of args.now)) }
-    ensures noticed { OnOk result ((A : List Entry) → StandsValid limits.now (state server.old).tree table.old A →
-        NoticedAll M.noticed A saver.old (told A limits.now cred.now time (call_of args.now)) saver.new) }
+    ensures stands { OnOk result ((A : List Entry) →
+        StandsValid limits.now (state server.old).tree table.old A →
+        Stands (state server.new).tree table.new
+        (array_after A limits.now cred.now time (call_of args.now))) }
+    ensures told { OnOk result ((A : List Entry) →
+        StandsValid limits.now (state server.old).tree table.old A →
+        M.told saver.new ≡ M.told saver.old
+        ++ told A limits.now cred.now time (call_of args.now)) }
+    ensures noticed { OnOk result ((A : List Entry) →
+        StandsValid limits.now (state server.old).tree table.old A →
+        NoticedAll M.noticed A saver.old
+        (told A limits.now cred.now time (call_of args.now)) saver.new) }
     ensures watched { Watched (state server.old) (state server.new) result }
 {
     match args {

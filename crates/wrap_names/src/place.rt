@@ -20,10 +20,12 @@ pub struct Place {
 
 /// Whether one name more would pass the limit of bytes.
 fn is_full(server: &mut Srv, table: &ConfTable, limits: &Limits) -> Result<bool, WrapErr>
-    requires stands { (A : List Entry) × StandsValid limits.now (state server.old).tree table.now A }
+    requires stands { (A : List Entry)
+        × StandsValid limits.now (state server.old).tree table.now A }
     requires within { AreWithin limits.now }
     ensures full { IfOk result (λ b. (A : List Entry) →
-        StandsValid limits.now (state server.old).tree table.now A → b ≡ no_room A limits.now 0 512) }
+        StandsValid limits.now (state server.old).tree table.now A →
+        b ≡ no_room A limits.now 0 512) }
     ensures same { OnOk result ((state server.new).tree ≡ (state server.old).tree) }
     ensures watched { Watched (state server.old) (state server.new) result }
 {
@@ -33,7 +35,8 @@ fn is_full(server: &mut Srv, table: &ConfTable, limits: &Limits) -> Result<bool,
 
 /// The index of a new object, or `None` where no index is free or the bytes would pass their limit.
 fn new_index(server: &mut Srv, table: &ConfTable, limits: &Limits) -> Result<Option<u32>, WrapErr>
-    requires stands { (A : List Entry) × StandsValid limits.now (state server.old).tree table.now A }
+    requires stands { (A : List Entry)
+        × StandsValid limits.now (state server.old).tree table.now A }
     requires within { AreWithin limits.now }
     ensures found { IfOk result (λ o. (A : List Entry) →
         StandsValid limits.now (state server.old).tree table.now A → IndexFound A limits.now o) }
@@ -49,7 +52,8 @@ fn new_index(server: &mut Srv, table: &ConfTable, limits: &Limits) -> Result<Opt
     Ok(Some(index))
 }
 
-/// The place of a new object, or the status of the first refusal: STALE, NOTDIR, ACCES, EXIST, NOSPC.
+/// The place of a new object, or the status of the first refusal: STALE, NOTDIR, ACCES, EXIST or
+/// NOSPC.
 pub fn place_of(
     server: &mut Srv,
     table: &ConfTable,
@@ -57,7 +61,8 @@ pub fn place_of(
     dir: &Handle,
     name: &[u8],
 ) -> Result<Result<Place, Stat>, WrapErr>
-    requires stands { (A : List Entry) × StandsValid limits.now (state server.old).tree table.now A }
+    requires stands { (A : List Entry)
+        × StandsValid limits.now (state server.old).tree table.now A }
     requires within { AreWithin limits.now }
     requires short { nat_le (length name.now) 255 ≡ true }
     ensures found { IfOk result (λ r. (A : List Entry) →

@@ -20,7 +20,8 @@ pub fn tell_both<M: Modify>(
     requires first { first < length table.now.rows.items }
     requires second { second < length table.now.rows.items }
     ensures told { OnOk result (M.told saver.new ≡ M.told saver.old ++ (first ∷ second ∷ [])) }
-    ensures noticed { OnOk result ((A : List Entry) → StandValid (state server.old).tree table.now A →
+    ensures noticed { OnOk result ((A : List Entry) →
+        StandValid (state server.old).tree table.now A →
         NoticedAll M.noticed A saver.old (first ∷ second ∷ []) saver.new) }
     ensures same { OnOk result ((state server.new).tree ≡ (state server.old).tree) }
     ensures watched { Watched (state server.old) (state server.new) result }

@@ -13,7 +13,7 @@ ghost use Rattle.wrap_read.specs.Reads.{is_read_call};
 use crate::get_attr::get_attr;
 use crate::lookup::lookup;
 use nfs2_types::{Args, Limits, NfsResult};
-use server_trait::{ConfTable, FileServer, Srv, WrapErr};
+use server_trait::{ConfTable, Srv, WrapErr};
 
 /// Answers a call that only reads, on a server and a table that stand for a valid array.
 pub fn read_proc(

@@ -12,7 +12,7 @@ ghost use Rattle.conf_map.specs.Stands.{StandValid};
 
 use conf_map::{fattr_at, locate};
 use nfs2_types::{Handle, NfsResult, stat};
-use server_trait::{ConfTable, FileServer, Srv, WrapErr};
+use server_trait::{ConfTable, Srv, WrapErr};
 
 /// The attributes of an object.
 pub fn get_attr(server: &mut Srv, table: &ConfTable, node: &Handle) -> Result<NfsResult, WrapErr>

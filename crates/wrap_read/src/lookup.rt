@@ -17,7 +17,7 @@ ghost use Rattle.wrap_read.specs.Reads.{parent_in, StepFound};
 
 use conf_map::{Located, follow, in_dir, node_of};
 use nfs2_types::{Handle, NfsResult, stat};
-use server_trait::{ConfTable, FileServer, Srv, WrapErr};
+use server_trait::{ConfTable, Srv, WrapErr};
 
 /// The parent of a row's directory, by the row's word for it.
 fn parent_of(table: &ConfTable, index: u32) -> Option<Located>

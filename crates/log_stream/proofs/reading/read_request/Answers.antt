@@ -16,9 +16,9 @@ unfolding request_at
 returns-in_err-micros-clause-bytes g c =
     reads_exit _ c.from_residual-in_err-micros.ensures.1 (reads_then _ c.in_ok-client.ensures.bytes (reads_then _ c.in_ok-secs.ensures.bytes (reads_stop _ c.in_err-micros.ensures.bytes)))
 
-pub returns-then-micros-ge1000000-clause-bytes : goal.returns-then-micros-ge1000000-clause-bytes
+pub returns-then-micros-ge-SECOND-clause-bytes : goal.returns-then-micros-ge-SECOND-clause-bytes
 unfolding request_at
-returns-then-micros-ge1000000-clause-bytes g c =
+returns-then-micros-ge-SECOND-clause-bytes g c =
     let past : leb 1000000 c.in_ok-micros.micros ≡ true = grind arith in
     reads_then _ c.in_ok-client.ensures.bytes (reads_then _ c.in_ok-secs.ensures.bytes (reads_then _ c.in_ok-micros.ensures.bytes
     (reads_if_true past _ _ (reads_wrong (λ bytes. refl)))))

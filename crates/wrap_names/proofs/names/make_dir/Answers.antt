@@ -31,12 +31,9 @@ node_of-requires-clause-stands g c = (
 
 pub returns-clause-answers : goal.returns-clause-answers
 returns-clause-answers g c A k =
-    let again = making_again c.args.limits.now _ c.args.table.now c.args.cred.now c.args.time c.args.dir.now c.args.name.now c.args.sattr.now c.in_ok-place.field-0 c.in_ok-place.ensures.found c.in-Ok.place c.in-Ok.is
-    _ (c.in_ok-tell_both.ensures.same ∙ c.in_ok-place.ensures.same) _ (c.in_ok-tell_both.ensures.watched.limits ∙ c.in_ok-place.ensures.watched.limits) c.requires.room
-    _ c.add_dir.new.table c.in_ok-at.at c.in_ok-at.ensures.added A k c.requires.within c.requires.time c.requires.fits in
     making_answers c.args.limits.now _ c.args.table.now c.args.cred.now c.args.time c.args.dir.now c.args.name.now c.args.sattr.now c.in_ok-place.field-0 c.in_ok-place.ensures.found c.in-Ok.place c.in-Ok.is
     _ (c.in_ok-tell_both.ensures.same ∙ c.in_ok-place.ensures.same) _ (c.in_ok-tell_both.ensures.watched.limits ∙ c.in_ok-place.ensures.watched.limits) c.requires.room
-    _ c.add_dir.new.table c.in_ok-at.at c.in_ok-at.ensures.added A k c.in_ok-node.node (c.in_ok-node.ensures.node _ again)
+    _ c.add_dir.new.table c.in_ok-at.at c.in_ok-at.ensures.added A k c.requires.within c.requires.time c.requires.fits c.in_ok-node.node c.in_ok-node.ensures.node
 
 pub returns-clause-stands : goal.returns-clause-stands
 returns-clause-stands g c A k =

@@ -1,15 +1,13 @@
-use Rattle.std.proofs.Common.{◌∙◌, sym, subst}
-use Rattle.wrap_names.specs.Places.{IndexFound}
-use Rattle.wrap_names.proofs.Refusals.{stands_still, good_name, not_found, dir_call, can_follow, name_found, refused_dot, refused_name, refused_space}
+use Rattle.std.proofs.Common.{sym}
+use Rattle.wrap_names.proofs.Refusals.{good_name, not_found, dir_call, dot_found, can_follow, name_found, space_found, place_found}
 use Rattle.wrap_names.proofs.place.place_of.Goals as goal
 
 pub returns-in-Err-clause-found : goal.returns-in-Err-clause-found
 returns-in-Err-clause-found g c A k = not_found c.args.limits.now c.requires.within _ c.args.table.now c.args.dir.now c.args.name.now c.in_ok-d.field-0 c.in_ok-d.ensures.found A k c.in-Err.refused c.in-Err.is
 
 pub returns-then-is_dot-clause-found : goal.returns-then-is_dot-clause-found
-returns-then-is_dot-clause-found g c A k =
-    let call = dir_call c.args.limits.now c.requires.within _ c.args.table.now c.args.dir.now c.args.name.now c.in_ok-d.field-0 c.in_ok-d.ensures.found c.in-Ok.d c.in-Ok.is A k in
-    refused_dot A c.args.limits.now c.args.table.now.rows.items c.args.dir.now c.args.name.now c.in-Ok.d call (sym c.if-is_dot.ensures)
+returns-then-is_dot-clause-found g c A k = dot_found c.args.limits.now c.requires.within _ c.args.table.now c.args.dir.now c.args.name.now c.in_ok-d.field-0 c.in_ok-d.ensures.found c.in-Ok.d c.in-Ok.is
+    A k (sym c.if-is_dot.ensures)
 
 pub follow-requires-clause-dir : goal.follow-requires-clause-dir
 follow-requires-clause-dir g c = can_follow c.args.limits.now c.requires.within _ c.args.table.now c.args.dir.now c.args.name.now c.in_ok-d.field-0 c.in_ok-d.ensures.found c.in-Ok.d c.in-Ok.is
@@ -25,31 +23,15 @@ follow-requires-clause-name g c =
     good_name c.args.name.now call.good c.requires.short (sym c.if-is_dot.ensures)
 
 pub returns-then-is_some-clause-found : goal.returns-then-is_some-clause-found
-returns-then-is_some-clause-found g c A k =
-    let call = dir_call c.args.limits.now c.requires.within _ c.args.table.now c.args.dir.now c.args.name.now c.in_ok-d.field-0 c.in_ok-d.ensures.found c.in-Ok.d c.in-Ok.is A k in
-    let there = name_found c.args.limits.now c.requires.within _ c.args.table.now c.args.dir.now c.args.name.now c.in_ok-d.field-0 c.in_ok-d.ensures.found c.in-Ok.d c.in-Ok.is
-    _ c.in_ok-d.ensures.same A k c.in_ok-follow.field-0 c.in_ok-follow.ensures.found in
-    refused_name A c.args.limits.now c.args.table.now.rows.items c.args.dir.now c.args.name.now c.in-Ok.d call (sym c.if-is_dot.ensures) (there ∙ sym c.if-is_some.ensures)
+returns-then-is_some-clause-found g c A k = name_found c.args.limits.now c.requires.within _ c.args.table.now c.args.dir.now c.args.name.now c.in_ok-d.field-0 c.in_ok-d.ensures.found c.in-Ok.d c.in-Ok.is
+    _ c.in_ok-d.ensures.same (sym c.if-is_dot.ensures) c.in_ok-follow.field-0 c.in_ok-follow.ensures.found A k (sym c.if-is_some.ensures)
 
 pub returns-in-Some-clause-found : goal.returns-in-Some-clause-found
-returns-in-Some-clause-found g c A k =
-    let call = dir_call c.args.limits.now c.requires.within _ c.args.table.now c.args.dir.now c.args.name.now c.in_ok-d.field-0 c.in_ok-d.ensures.found c.in-Ok.d c.in-Ok.is A k in
-    let there = name_found c.args.limits.now c.requires.within _ c.args.table.now c.args.dir.now c.args.name.now c.in_ok-d.field-0 c.in_ok-d.ensures.found c.in-Ok.d c.in-Ok.is
-    _ c.in_ok-d.ensures.same A k c.in_ok-follow.field-0 c.in_ok-follow.ensures.found in
-    record {
-      in_dir = call;
-      no_dot = sym c.if-is_dot.ensures;
-      good = good_name c.args.name.now call.good c.requires.short (sym c.if-is_dot.ensures);
-      lacks = there ∙ sym c.if-is_some.ensures;
-      index = subst (IndexFound A c.args.limits.now) c.in-Some.is
-          (c.in_ok-index.ensures.found A (stands_still c.args.limits.now _ _ c.args.table.now A (c.in_ok-follow.ensures.same ∙ c.in_ok-d.ensures.same) k));
-    }
+returns-in-Some-clause-found g c A k = place_found c.args.limits.now c.requires.within _ c.args.table.now c.args.dir.now c.args.name.now c.in_ok-d.field-0 c.in_ok-d.ensures.found c.in-Ok.d c.in-Ok.is
+    _ c.in_ok-d.ensures.same (sym c.if-is_dot.ensures) c.in_ok-follow.field-0 c.in_ok-follow.ensures.found A k (sym c.if-is_some.ensures)
+    _ c.in_ok-follow.ensures.same c.in_ok-index.field-0 c.in_ok-index.ensures.found c.in-Some.index c.in-Some.is c.requires.short
 
 pub returns-in-None-clause-found : goal.returns-in-None-clause-found
-returns-in-None-clause-found g c A k =
-    let call = dir_call c.args.limits.now c.requires.within _ c.args.table.now c.args.dir.now c.args.name.now c.in_ok-d.field-0 c.in_ok-d.ensures.found c.in-Ok.d c.in-Ok.is A k in
-    let there = name_found c.args.limits.now c.requires.within _ c.args.table.now c.args.dir.now c.args.name.now c.in_ok-d.field-0 c.in_ok-d.ensures.found c.in-Ok.d c.in-Ok.is
-    _ c.in_ok-d.ensures.same A k c.in_ok-follow.field-0 c.in_ok-follow.ensures.found in
-    refused_space A c.args.limits.now c.args.table.now.rows.items c.args.dir.now c.args.name.now c.in-Ok.d call (sym c.if-is_dot.ensures) (there ∙ sym c.if-is_some.ensures)
-    (subst (IndexFound A c.args.limits.now) c.in-None.is
-    (c.in_ok-index.ensures.found A (stands_still c.args.limits.now _ _ c.args.table.now A (c.in_ok-follow.ensures.same ∙ c.in_ok-d.ensures.same) k)))
+returns-in-None-clause-found g c A k = space_found c.args.limits.now c.requires.within _ c.args.table.now c.args.dir.now c.args.name.now c.in_ok-d.field-0 c.in_ok-d.ensures.found c.in-Ok.d c.in-Ok.is
+    _ c.in_ok-d.ensures.same (sym c.if-is_dot.ensures) c.in_ok-follow.field-0 c.in_ok-follow.ensures.found A k (sym c.if-is_some.ensures)
+    _ c.in_ok-follow.ensures.same c.in_ok-index.field-0 c.in_ok-index.ensures.found c.in-None.is
