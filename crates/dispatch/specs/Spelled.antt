@@ -15,7 +15,7 @@ use Rattle.nfs2_args.specs.Forms.{args_form}
 use Rattle.abs_model.specs.declared.Entry.{Entry}
 use Rattle.dispatch.specs.Answer.{Answer, stays, refused, accepted}
 
--- the header of a call (CALL is 0) of RPC version 2, of a procedure of NFS version 2 (RFC 1094, 2.1), whose credential
+-- the header of a call (CALL is 0) of RPC version 2, of a procedure of NFS version 2 (RFC 1094, 2.2), whose credential
 -- names this caller
 pub record CallsNfs (h : Header) (caller : Cred) : Type 0 where
   pub kind : h.kind ≡ 0

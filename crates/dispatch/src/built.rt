@@ -8,7 +8,7 @@ use nfs2_args::read_args;
 use nfs2_types::Args;
 use rpc_core::{CallHead, read_call};
 
-/// The program number of NFS (RFC 1094, 2.1).
+/// The program number of NFS (RFC 1094, 2.2).
 const NFS: u32 = 100003;
 
 fn is_built_call(args: &Args) -> bool
