@@ -1,0 +1,92 @@
+-- The start of a run, and its turns.
+use Rattle.std.proofs.Common.{◌≡◌, inl, inr, ℕ, suc, ◌+◌, ◌-◌, ◌<◌, ◌≤◌, List, [], ◌++◌, length, Option, Result, Ok, Err, refl, sym, ap, subst, ◌∙◌, arith}
+use Rattle.std.specs.List.{All}
+use Rattle.std.proofs.lemmas.List.{append-nil}
+use Rattle.nfs2_types.specs.declared.Limits.{Limits}
+use Rattle.server_trait.specs.Tree.{Server}
+use Rattle.server_trait.specs.declared.ServerLimits.{ServerLimits}
+use Rattle.server_trait.specs.declared.ConfTable.{ConfTable}
+use Rattle.server_trait.specs.declared.FaultPoint.{FaultPoint}
+use Rattle.conf_map.specs.Stands.{HasRoom}
+use Rattle.log_format.specs.declared.Line.{Line}
+use Rattle.log_format.specs.Lines.{text_of}
+use Rattle.log_stream.specs.Writing.{Writes}
+use Rattle.log_stream.proofs.WriteSteps.{Appends-none}
+use Rattle.outside.specs.declared.SinkErr.{SinkErr}
+use Rattle.cluster.specs.declared.Request.{Request}
+use Rattle.cluster.specs.Served.{service}
+use Rattle.cluster.specs.Step.{Moment}
+use Rattle.cluster.specs.Run.{end_of, AreMet}
+use Rattle.cluster.specs.OverBench.{Kept, Starts, IsState}
+use Rattle.basefs.specs.declared.status.Status.{Status}
+use Rattle.basefs.specs.declared.status.Status.TheVariants as status
+use Rattle.basefs.specs.declared.turn.Turn.TheVariants as turns
+use Rattle.basefs.specs.Log.{Log, records_from}
+use Rattle.basefs.specs.Run.{Snapshot, Ran}
+use Rattle.basefs.specs.Going.{Goes, Here, Going, Turns, write_status}
+use Rattle.basefs.specs.Turns.{snapshot}
+use Rattle.basefs.specs.Replayed.{all_records, Begun, RunsAll, Unstarted}
+use Rattle.basefs.proofs.Taking.{Goes-none, over_write}
+use Rattle.basefs.proofs.Stepped.{all_as, ran_here, printed_part, appended_all}
+use Rattle.basefs.proofs.Turning.{stops_most}
+
+module _ (limits : Limits) (kept : Kept) (server server' : Server) (table table' : ConfTable) (downs downs' : List FaultPoint) (lines : List Line) (s : Starts limits kept server server' table' downs' lines) where
+
+  here : Here limits server server' table' downs' kept []
+  here = record {
+    state = subst (λ (q : List Request). IsState limits q kept.place server'.tree table' (end_of (service limits) downs' [])) (sym s.requests) s.state;
+    requests = s.requests;
+    counted = s.events;
+    limits_are = s.limits_are;
+    points = all_as (λ (d : FaultPoint). (d.event ≡ 0) × (d.replica ≡ 0)) (λ (d : FaultPoint). (d.event ≤ 0) × (d.replica ≡ 0)) downs' (λ d p. (omega (arith, p.0), p.1)) s.numbered;
+    met = subst (AreMet downs') (sym s.lines_said) s.lines_are;
+    rose = s.struck.rose;
+    quiet = λ none. s.struck.quiet (ap (λ (d : List FaultPoint). length d) none);
+    limits_stay = s.struck.limits;
+  }
+
+  text_is : text_of (end_of (service limits) downs' []).lines ≡ [] ++ text_of lines
+  text_is = ap text_of s.lines_said
+
+  -- the replica was started, and its lines were written
+  pub begun : (left held held' : Option (List ℕ)) (x : Unit {0}) → Writes {E = SinkErr} held held' (text_of lines) (Ok x)
+      → Going limits (all_records limits) (snapshot left held server table downs) (snapshot left held' server' table' downs') kept 16777216 24 × (kept.events ≡ 0)
+  begun left held held' x w = (record {
+    events = [];
+    goes = subst (λ (q : List Request). Goes left left (all_records limits) (records_from 16777216 limits.k q 24) []) (sym s.requests) (Goes-none left (all_records limits));
+    printed = appended_all held [] (Appends-none held) w text_is;
+    here = here;
+  }, s.events)
+
+  -- a write failed
+  pub begun_failed : (left held held' : Option (List ℕ)) (f : SinkErr) → limits.f ≡ 0 → Writes {T = Unit} held held' (text_of lines) (Err f)
+      → Ran limits (all_records limits) (snapshot left held server table downs) (snapshot left held' server' table' downs') (write_status f)
+  begun_failed left held held' f one w = ran_here one here (over_write f (all_records limits) left) (printed_part [] (Appends-none held) w text_is)
+
+-- THE TURNS OF A RUN
+
+less : (most i : ℕ) → i < most → most - i ≡ suc (most - (i + 1))
+less most i lt = omega arith
+
+-- one turn more
+pub turned : {limits : Limits} {log : List ℕ → Log} {old mid new : Snapshot} {kept kept' : Kept} {place next : ℕ} (most i : ℕ) → i < most → limits.f ≡ 0
+    → Going limits log old mid kept (most - i) place → Turns mid new kept kept' place (turns.Goes next) → Going limits log old new kept' (most - (i + 1)) next
+turned {limits = limits} {log = log} {old = old} {mid = mid} {kept = kept} {place = place} most i lt one g t =
+    t limits log old (most - (i + 1)) one (subst (λ (n : ℕ). Going limits log old mid kept n place) (less most i lt) g)
+
+-- the last turn
+pub turned_over : {limits : Limits} {log : List ℕ → Log} {old mid new : Snapshot} {kept : Kept} {place : ℕ} {s : Status} (kept' : Kept) (most i : ℕ) → i < most → limits.f ≡ 0
+    → Going limits log old mid kept (most - i) place → Turns mid new kept kept' place (turns.Over s) → Ran limits log old new s
+turned_over {limits = limits} {log = log} {old = old} {mid = mid} {kept = kept} {place = place} kept' most i lt one g t =
+    t limits log old (most - (i + 1)) one (subst (λ (n : ℕ). Going limits log old mid kept n place) (less most i lt) g)
+
+-- no more turns are taken
+pub turned_most : {limits : Limits} {log : List ℕ → Log} {old : Snapshot} {left held : Option (List ℕ)} {server : Server} {table : ConfTable} {downs : List FaultPoint} {kept : Kept} {place : ℕ} (most i : ℕ) → most ≤ i → limits.f ≡ 0
+    → Going limits log old (snapshot left held server table downs) kept (most - i) place → Ran limits log old (snapshot left held server table downs) (status.BadLog place)
+turned_most {limits = limits} {log = log} {old = old} {left = left} {held = held} {server = server} {table = table} {downs = downs} {kept = kept} {place = place} most i le one g =
+    let none : most - i ≡ 0 = omega arith in
+    stops_most one (subst (λ (n : ℕ). Going limits log old (snapshot left held server table downs) kept n place) none g)
+
+-- the server has room as before
+pub has_room : (limits limits' : Limits) (most most' : ServerLimits) → limits' ≡ limits → most' ≡ most → HasRoom limits most → HasRoom limits' most'
+has_room limits limits' most most' l m h = subst (λ (x : Limits). HasRoom x most') (sym l) (subst (HasRoom limits) (sym m) h)

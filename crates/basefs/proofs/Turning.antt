@@ -1,0 +1,114 @@
+-- What a turn of a run comes to.
+use Rattle.std.proofs.Common.{◌≡◌, ◌⊎◌, inl, inr, ℕ, suc, ◌+◌, ◌≤◌, List, [], ◌∷◌, ◌++◌, Option, Result, Ok, Err, refl, sym, ap, subst, ◌∙◌}
+use Rattle.std.proofs.lemmas.List.{append-nil}
+use Rattle.nfs2_types.specs.declared.Limits.{Limits}
+use Rattle.server_trait.specs.Tree.{Server}
+use Rattle.server_trait.specs.declared.ConfTable.{ConfTable}
+use Rattle.server_trait.specs.declared.FaultPoint.{FaultPoint}
+use Rattle.log_format.specs.declared.Event.{Event}
+use Rattle.log_format.specs.Records.{record_at, record_len}
+use Rattle.log_stream.specs.declared.ReadErr.{ReadErr}
+use Rattle.log_stream.specs.Reading.{Reads}
+use Rattle.outside.specs.declared.SinkErr.{SinkErr}
+use Rattle.outside.specs.declared.SinkErr.TheVariants as sink
+use Rattle.cluster.specs.declared.Request.{Request}
+use Rattle.cluster.specs.Run.{asked_by}
+use Rattle.cluster.specs.OverBench.{Kept}
+use Rattle.basefs.specs.declared.status.Status.{Status}
+use Rattle.basefs.specs.declared.status.Status.TheVariants as status
+use Rattle.basefs.specs.declared.verdict.Verdict.TheVariants as verdict
+use Rattle.basefs.specs.declared.turn.Turn.TheVariants as turns
+use Rattle.basefs.specs.Log.{Log, stops, behind_last, judge, records_from}
+use Rattle.basefs.specs.Run.{Snapshot, Ends, Ran}
+use Rattle.basefs.specs.Going.{Goes, Going, Turns, Finishes, read_status, write_status}
+use Rattle.basefs.specs.Turns.{snapshot, Stepped, Written, Wanted}
+use Rattle.basefs.proofs.Taking.{Ends-then, Goes-then, over_read, over_wrong, over_waits, over_memory, one_goes, over_write, last_goes, over_finish, over_most}
+use Rattle.basefs.proofs.Stepped.{here_more, text_more, ran_here, ran_short, printed_all, printed_part, appended_all}
+
+-- the run stops, and nothing was stepped
+pub stops_here : {limits : Limits} {log : List ℕ → Log} {old : Snapshot} {left left' held : Option (List ℕ)} {server : Server} {table : ConfTable} {downs : List FaultPoint} {kept : Kept} {n place : ℕ} {s : Status} →
+    limits.f ≡ 0 → Going limits log old (snapshot left held server table downs) kept n place → Ends left left' (records_from n limits.k kept.requests place) s [] → Ran limits log old (snapshot left' held server table downs) s
+stops_here {log = log} {old = old} {left' = left'} {s = s} one g ends =
+    ran_here one g.here (subst (Ends old.left left' log s) (append-nil g.events) (Ends-then g.goes ends)) (printed_all s g.printed)
+
+-- no more records are read
+pub stops_most : {limits : Limits} {log : List ℕ → Log} {old : Snapshot} {left held : Option (List ℕ)} {server : Server} {table : ConfTable} {downs : List FaultPoint} {kept : Kept} {place : ℕ} →
+    limits.f ≡ 0 → Going limits log old (snapshot left held server table downs) kept 0 place → Ran limits log old (snapshot left held server table downs) (status.BadLog place)
+stops_most {limits = limits} {left = left} {kept = kept} {place = place} one g = stops_here one g (over_most left limits.k kept.requests place)
+
+module _ (k : ℕ) (left left' held : Option (List ℕ)) (server : Server) (table : ConfTable) (downs : List FaultPoint) (kept : Kept) (place : ℕ) (e : Event) (kept_k : k ≡ kept.limits.k) (r : Reads record_at (λ (x : Event). x) left left' (Ok e)) where
+
+  abbrev Before : Limits → (List ℕ → Log) → Snapshot → ℕ → Type 0
+  Before limits log old n = Going limits log old (snapshot left held server table downs) kept n place
+
+  judged : (limits : Limits) (log : List ℕ → Log) (old : Snapshot) (n : ℕ) (v : verdict.the_data) → Before limits log old n → judge k kept.requests e ≡ v → judge limits.k kept.requests e ≡ v
+  judged limits log old n v g j = subst (λ (i : ℕ). judge i kept.requests e ≡ v) (kept_k ∙ ap (λ (l : Limits). l.k) g.here.limits_are) j
+
+  pub turn_wrong : judge k kept.requests e ≡ verdict.Wrong → Turns (snapshot left held server table downs) (snapshot left' held server table downs) kept kept place (turns.Over (status.BadLog place))
+  turn_wrong j limits log old n one g = stops_here one g (over_wrong n limits.k kept.requests place r (judged limits log old (suc n) verdict.Wrong g j))
+
+  pub turn_waits : judge k kept.requests e ≡ verdict.Waits → Turns (snapshot left held server table downs) (snapshot left' held server table downs) kept kept place (turns.Over (status.NotBuilt place))
+  turn_waits j limits log old n one g = stops_here one g (over_waits n limits.k kept.requests place r (judged limits log old (suc n) verdict.Waits g j))
+
+  module _ (held' : Option (List ℕ)) (server' : Server) (table' : ConfTable) (downs' : List FaultPoint) (kept' : Kept) where
+
+    -- a record was stepped, and its lines were written
+    pub turn_goes : (x : Unit) → judge k kept.requests e ≡ verdict.Goes → Written kept kept' server server' table table' downs downs' held held' e (Ok x)
+        → Turns (snapshot left held server table downs) (snapshot left' held' server' table' downs') kept kept' place (turns.Goes (place + record_len e))
+    turn_goes x j w limits log old n one g = record {
+      events = g.events ++ e ∷ [];
+      goes = subst (λ (q : List Request). Goes old.left left' log (records_from n limits.k q (place + record_len e)) (g.events ++ e ∷ [])) (sym w.steps.requests)
+          (Goes-then g.goes (one_goes n limits.k kept.requests place r (judged limits log old (suc n) verdict.Goes g j)));
+      printed = appended_all old.held _ g.printed w.writes (text_more g.here w.steps);
+      here = here_more g.here w.steps;
+    }
+
+    wrote_part : (limits : Limits) (log : List ℕ → Log) (old : Snapshot) (n : ℕ) (f : SinkErr) (rest : List ℕ → Log) → limits.f ≡ 0 → (g : Before limits log old (suc n))
+        → Goes left left' (records_from (suc n) limits.k kept.requests place) rest (e ∷ []) → Written kept kept' server server' table table' downs downs' held held' e (Err f)
+        → Ran limits log old (snapshot left' held' server' table' downs') (write_status f)
+    wrote_part limits log old n f rest one g goes w =
+        ran_here one (here_more g.here w.steps)
+          (subst (Ends old.left left' log (write_status f)) (append-nil (g.events ++ e ∷ [])) (Ends-then (Goes-then g.goes goes) (over_write f rest left')))
+          (printed_part _ g.printed w.writes (text_more g.here w.steps))
+
+    wanted : (limits : Limits) (log : List ℕ → Log) (old : Snapshot) (n : ℕ) → server.faults ≤ server'.faults → server'.limits ≡ server.limits → downs' ≡ downs → held' ≡ held → limits.f ≡ 0
+        → Before limits log old n → Ran limits log old (snapshot left' held' server' table' downs') status.NoMemory
+    wanted limits log old n later same d h one g =
+        subst (λ (x : List FaultPoint). Ran limits log old (snapshot left' held' server' table' x) status.NoMemory) (sym d)
+        (subst (λ (x : Option (List ℕ)). Ran limits log old (snapshot left' x server' table' downs) status.NoMemory) (sym h)
+          (ran_short one g.here later same
+            (subst (Ends old.left left' log status.NoMemory) (append-nil g.events) (Ends-then g.goes (over_memory (records_from n limits.k kept.requests place) r)))
+            (printed_all status.NoMemory g.printed)))
+
+    err_is : (f : SinkErr) (x : Result Unit SinkErr) → x ≡ Err f → x ≡ Err sink.NoMemory → write_status f ≡ status.NoMemory
+    err_is f x h k = let same : f ≡ sink.NoMemory = cc in ap write_status same
+
+    -- a record was stepped, or memory wanted, and its lines were not all written
+    pub turn_failed : (f : SinkErr) → server.faults ≤ server'.faults → server'.limits ≡ server.limits → (judge k kept.requests e ≡ verdict.Goes) ⊎ (judge k kept.requests e ≡ verdict.Ends)
+        → Stepped kept kept' server server' table table' downs downs' held held' e (Err f)
+        → Turns (snapshot left held server table downs) (snapshot left' held' server' table' downs') kept kept' place (turns.Over (write_status f))
+    turn_failed f later same (inl j) (inl w) limits log old n one g =
+        wrote_part limits log old n f (records_from n limits.k (kept.requests ++ asked_by e) (place + record_len e)) one g (one_goes n limits.k kept.requests place r (judged limits log old (suc n) verdict.Goes g j)) w
+    turn_failed f later same (inr j) (inl w) limits log old n one g =
+        wrote_part limits log old n f (λ more. stops (behind_last (place + record_len e) more)) one g (last_goes n limits.k kept.requests place r (judged limits log old (suc n) verdict.Ends g j)) w
+    turn_failed f later same j (inr w) limits log old n one g =
+        subst (Ran limits log old (snapshot left' held' server' table' downs')) (sym (err_is f _ refl w.is)) (wanted limits log old (suc n) later same w.downs_stay w.held_stay one g)
+
+    -- the last record was stepped, its lines were written, and what stands behind it was looked at
+    pub turn_ends : (x : Unit) (left'' : Option (List ℕ)) (f : Status) → judge k kept.requests e ≡ verdict.Ends → Written kept kept' server server' table table' downs downs' held held' e (Ok x) → Finishes left' left'' (place + record_len e) f
+        → Turns (snapshot left held server table downs) (snapshot left'' held' server' table' downs') kept kept' place (turns.Over f)
+    turn_ends x left'' f j w finish limits log old n one g =
+        ran_here one (here_more g.here w.steps)
+          (subst (Ends old.left left'' log f) (append-nil (g.events ++ e ∷ []))
+            (Ends-then (Goes-then g.goes (last_goes n limits.k kept.requests place r (judged limits log old (suc n) verdict.Ends g j))) (over_finish (place + record_len e) finish)))
+          (printed_all f (appended_all old.held _ g.printed w.writes (text_more g.here w.steps)))
+
+-- no record was read
+pub turn_read : {k : ℕ} {left left' held : Option (List ℕ)} {server : Server} {table : ConfTable} {downs : List FaultPoint} {kept : Kept} {place : ℕ} {e : ReadErr} → k ≡ kept.limits.k → Reads record_at (λ (x : Event). x) left left' (Err e)
+    → Turns (snapshot left held server table downs) (snapshot left' held server table downs) kept kept place (turns.Over (read_status e place))
+turn_read {kept = kept} {place = place} is r limits log old n one g = stops_here one g (over_read n limits.k kept.requests place r)
+
+-- what was stepped was not wanted
+pub not_wanted : {kept kept' : Kept} {server server' : Server} {table table' : ConfTable} {downs downs' : List FaultPoint} {held held' : Option (List ℕ)} {e : Event} {x : Unit} → Stepped kept kept' server server' table table' downs downs' held held' e (Ok x) → Written kept kept' server server' table table' downs downs' held held' e (Ok x)
+not_wanted (inl w) = w
+not_wanted {x = x} (inr w) = absurd (let h : Ok x ≡ Err sink.NoMemory = w.is in cc)

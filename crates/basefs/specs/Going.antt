@@ -1,0 +1,85 @@
+-- A run that goes on: what was read, stepped and written so far.
+use Rattle.std.specs.Prelude.{◌≡◌, ℕ, suc, ◌≤◌, List, [], ◌++◌, length, Option, All}
+use Rattle.std.specs.Io.KnownBytes.{Consumes, Appends, IsAtEnd}
+use Rattle.nfs2_types.specs.declared.Limits.{Limits}
+use Rattle.server_trait.specs.Tree.{Server}
+use Rattle.server_trait.specs.declared.ConfTable.{ConfTable}
+use Rattle.server_trait.specs.declared.FaultPoint.{FaultPoint}
+use Rattle.log_format.specs.declared.Event.{Event}
+use Rattle.log_format.specs.Lines.{text_of}
+use Rattle.log_stream.specs.declared.ReadErr.{ReadErr}
+use Rattle.log_stream.specs.declared.ReadErr.TheVariants as read
+use Rattle.outside.specs.declared.SinkErr.{SinkErr}
+use Rattle.outside.specs.declared.SinkErr.TheVariants as sink
+use Rattle.cluster.specs.Served.{service}
+use Rattle.cluster.specs.Run.{end_of, requests_of, AreMet}
+use Rattle.cluster.specs.OverBench.{Kept, IsState, RoseBy}
+use Rattle.basefs.specs.declared.status.Status.{Status}
+use Rattle.basefs.specs.declared.status.Status.TheVariants as statuses
+use Rattle.basefs.specs.declared.turn.Turn.{Turn}
+use Rattle.basefs.specs.declared.turn.Turn.TheVariants as turns
+use Rattle.basefs.specs.Log.{Log, records_from}
+use Rattle.basefs.specs.Run.{Snapshot, Ran}
+
+-- these records, and then those of a log
+abbrev pub behind : List Event → Log → Log
+behind events log = record { events = events ++ log.events; stop = log.stop }
+
+-- from a source some bytes were taken, which are these records of the log; what follows them is the rest of it
+pub record Goes (old left : Option (List ℕ)) (log rest : List ℕ → Log) (events : List Event) : Type 0 where
+  pub taken : List ℕ
+  pub consumed : Consumes old left taken
+  pub goes : (more : List ℕ) → log (taken ++ more) ≡ behind events (rest more)
+
+-- Cluster, server and table stand for the last moment of the model's run of these records, in which the server failed at the fault points.
+pub record Here (limits : Limits) (old now : Server) (table : ConfTable) (downs : List FaultPoint) (kept : Kept) (events : List Event) : Type 0 where
+  pub state : IsState limits kept.requests kept.place now.tree table (end_of (service limits) downs events)
+  pub requests : kept.requests ≡ requests_of events
+  pub counted : kept.events ≡ length events
+  pub limits_are : kept.limits ≡ limits
+  pub points : All (λ (d : FaultPoint). (d.event ≤ length events) × (d.replica ≡ 0)) downs
+  pub met : AreMet downs (end_of (service limits) downs events).lines
+  pub rose : RoseBy (length downs) old.faults now.faults
+  pub quiet : downs ≡ [] → now.faults ≡ old.faults
+  pub limits_stay : now.limits ≡ old.limits
+
+-- Some records were stepped, and their lines were written. At most n records are to come, the first at this byte.
+pub record Going (limits : Limits) (log : List ℕ → Log) (old now : Snapshot) (kept : Kept) (n place : ℕ) : Type 0 where
+  pub events : List Event
+  pub goes : Goes old.left now.left log (records_from n limits.k kept.requests place) events
+  pub printed : Appends old.held now.held (text_of (end_of (service limits) now.downs events).lines)
+  pub here : Here limits old.server now.server now.table now.downs kept events
+
+-- what a turn came to
+abbrev pub TurnSays : Limits → (List ℕ → Log) → Snapshot → Snapshot → Kept → ℕ → Turn → Type 0
+TurnSays limits log old now kept n (turns.Goes next) = Going limits log old now kept n next
+TurnSays limits log old now kept n (turns.Over ended) = Ran limits log old now ended
+
+-- from any run so far a turn leads to where this one says
+abbrev pub Turns : Snapshot → Snapshot → Kept → Kept → ℕ → Turn → Type 0
+Turns before now kept kept' place result =
+    (limits : Limits) (log : List ℕ → Log) (old : Snapshot) (n : ℕ) → limits.f ≡ 0 → Going limits log old before kept (suc n) place → TurnSays limits log old now kept' n result
+
+-- the status of an error of the source, at an item that begins at this byte
+abbrev pub read_status : ReadErr → ℕ → Status
+read_status read.Failed at = statuses.ReadFault
+read_status read.NoMemory at = statuses.NoMemory
+read_status read.Wrong at = statuses.BadLog at
+
+-- the status of an error of the sink
+abbrev pub write_status : SinkErr → Status
+write_status sink.Failed = statuses.WriteFault
+write_status sink.NoMemory = statuses.NoMemory
+
+-- WHAT IS FOUND BEHIND THE LAST RECORD, which ends before this byte
+
+abbrev pub FinishSays : Status → ℕ → List ℕ → Option (List ℕ) → Type 0
+FinishSays statuses.Done place taken left = (taken ≡ []) × IsAtEnd left
+FinishSays (statuses.BadLog at) place taken left = (at ≡ place) × (1 ≤ length taken)
+FinishSays statuses.ReadFault place taken left = taken ≡ []
+FinishSays s place taken left = ⊥
+
+pub record Finishes (old left : Option (List ℕ)) (place : ℕ) (ended : Status) : Type 0 where
+  pub taken : List ℕ
+  pub consumed : Consumes old left taken
+  pub says : FinishSays ended place taken left

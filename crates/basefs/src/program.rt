@@ -1,0 +1,65 @@
+//! All that the program does.
+
+ghost use Rattle.std.specs.Prelude.{◌≡◌, ◌<◌, ◌^◌, vec_len, IfSome, IsTrue, ◌↔◌, ◌⊎◌};
+ghost use Rattle.nfs2_types.specs.Counts.{Rose};
+ghost use Rattle.basefs.specs.Log.{log_of};
+ghost use Rattle.basefs.specs.Run.{status_of, IsFault};
+ghost use Rattle.basefs.specs.Replayed.{Replayed};
+ghost use Rattle.basefs.specs.Words.{IsReplay};
+
+use crate::replay::replay;
+use crate::status::Status;
+use outside::{Clock, Link, Sink, Source};
+use server_trait::{Bench, FileServer, Srv};
+use std::alloc::Global;
+
+/// Whether these are the words of the one command.
+fn is_replay(words: &[String]) -> bool
+    ensures { IsTrue result ↔ IsReplay words.now }
+{
+    match words {
+        [word] => word.as_str() == "replay",
+        _ => false,
+    }
+}
+
+/// All that the program does, over the words behind its name: it reads a log from the source, runs it over the servers
+/// of the bench, and writes its lines to the sink. Link and clock are not used yet.
+pub fn basefs<S: Source, O: Sink, N: Link, C: Clock>(
+    alloc: Global,
+    words: &[String],
+    input: &mut S,
+    out: &mut O,
+    _link: &mut N,
+    _clock: &mut C,
+    bench: &mut Bench,
+) -> Status
+    requires few { vec_len bench.old.servers < 2 ^ 32 }
+    ensures usage { (result ≡ Status.Usage) ↔ ¬ (IsReplay words.now) }
+
+    // Words that are no command touch nothing.
+    ensures untouched { result ≡ Status.Usage → (input.new ≡ input.old) × (out.new ≡ out.old) × (bench.new ≡ bench.old) }
+
+    // Where the source tells its bytes, the status is that of the log that they are, unless the outside fails or memory
+    // wants.
+    ensures exact { IsReplay words.now → IfSome (S.left input.old) (λ bytes.
+        (result ≡ status_of (log_of (λ s. (⟦<Srv as FileServer>⟧.state s).limits) bench.old.servers.items bytes).stop) ⊎ IsFault result) }
+
+    // Either nothing was started and written; or the replica was started, the records of the log were stepped up to
+    // the one that stops the run, each reply that was written is the service's at its place, and the server of the
+    // replica, if that is live, holds exactly the array of the service at the replica's place.
+    ensures run { IsReplay words.now → Replayed ⟦<Srv as FileServer>⟧.state
+        (S.left input.old) (S.left input.new) (O.written out.old) (O.written out.new)
+        bench.old.servers.items bench.new.servers.items bench.new.tables.items bench.new.downs.items result }
+
+    ensures read { result ≡ Status.ReadFault → Rose (S.faults input.old) (S.faults input.new) }
+    ensures write { result ≡ Status.WriteFault → Rose (O.faults out.old) (O.faults out.new) }
+    ensures link { _link.new ≡ _link.old }
+    ensures clock { _clock.new ≡ _clock.old }
+{
+    if is_replay(words) {
+        replay(alloc, input, out, bench)
+    } else {
+        Status::Usage
+    }
+}

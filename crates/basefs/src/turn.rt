@@ -1,0 +1,188 @@
+//! One record of a log: read, judged, stepped, and its lines written.
+
+ghost use Rattle.std.specs.Prelude.{◌≡◌, ◌<◌, ◌≤◌, ◌^◌, length};
+ghost use Rattle.nfs2_types.specs.Times.{is_time};
+ghost use Rattle.nfs2_types.specs.Counts.{Rose};
+ghost use Rattle.conf_map.specs.Stands.{HasRoom};
+ghost use Rattle.log_format.specs.Lines.{text_of};
+ghost use Rattle.log_stream.specs.Writing.{Writes, WriteHasCause};
+ghost use Rattle.cluster.specs.OverBench.{HasArray, CanStep};
+ghost use Rattle.basefs.specs.Turns.{Stepped, IsNear, snapshot};
+ghost use Rattle.basefs.specs.Log.{falls as falls_behind, judge_request as judge_request_of, judge as judge_of};
+ghost use Rattle.basefs.specs.Going.{read_status as status_of_read, write_status as status_of_write, Finishes, Turns};
+
+use crate::status::Status;
+use crate::verdict::Verdict;
+use cluster::Cluster;
+use dispatch::is_built;
+use log_format::Event;
+use log_stream::{ReadErr, read_record, record_len, write_lines};
+use nfs2_types::{Blob, Time};
+use outside::{Sink, SinkErr, Source};
+use server_trait::{ConfTable, FaultPoint, Srv};
+use std::alloc::Global;
+
+/// The most requests of a log.
+const MOST_REQUESTS: usize = 1_000_000;
+
+/// What came of a turn.
+#[derive(Debug, Drop)]
+pub enum Turn {
+    /// The next record begins at this byte.
+    Goes { next: u64 },
+    /// The run is over.
+    Over(Status),
+}
+
+/// Whether a time lies before the last one.
+fn falls(time: Time, last: Option<Time>) -> bool
+    ensures { result ≡ falls_behind time last }
+{
+    match last {
+        None => false,
+        Some(last) => {
+            time.secs < last.secs || (time.secs == last.secs && time.micros < last.micros)
+        }
+    }
+}
+
+/// What comes of a request behind so many others.
+fn judge_request(k: u32, asked: usize, last: Option<Time>, time: Time, call: &[u8]) -> Verdict
+    requires interval { 0 < k }
+    requires few { asked < 2 ^ 32 }
+    ensures { result ≡ judge_request_of k asked last time call.now }
+{
+    if falls(time, last) || asked >= MOST_REQUESTS {
+        Verdict::Wrong
+    } else if (asked as u32 + 1) % k == 0 || !is_built(call) {
+        Verdict::Waits
+    } else {
+        Verdict::Goes
+    }
+}
+
+/// What comes of a record behind the requests so far, with a checkpoint each `k` requests.
+fn judge(k: u32, cluster: &Cluster, event: &Event) -> Verdict
+    requires interval { 0 < k }
+    ensures { result ≡ judge_of k cluster.now.requests event.now }
+{
+    match event {
+        Event::Request { time, bytes, .. } => judge_request(
+            k,
+            cluster.asked(),
+            cluster.last_time(),
+            *time,
+            bytes.as_slice(),
+        ),
+        Event::RunAll => Verdict::Goes,
+        Event::End => Verdict::Ends,
+        Event::Unbuilt => Verdict::Waits,
+    }
+}
+
+/// The status of an error of the source, at an item that begins at this byte.
+pub fn read_status(error: ReadErr, at: u64) -> Status
+    ensures { result ≡ status_of_read error at }
+{
+    match error {
+        ReadErr::Failed => Status::ReadFault,
+        ReadErr::NoMemory => Status::NoMemory,
+        ReadErr::Wrong => Status::BadLog { at },
+    }
+}
+
+/// The status of an error of the sink.
+pub fn write_status(error: SinkErr) -> Status
+    ensures { result ≡ status_of_write error }
+{
+    match error {
+        SinkErr::Failed => Status::WriteFault,
+        SinkErr::NoMemory => Status::NoMemory,
+    }
+}
+
+/// Whether anything stands behind the last record, which ends before this byte.
+fn finish<S: Source>(input: &mut S, place: u64) -> Status
+    ensures bytes { Finishes (S.left input.old) (S.left input.new) place result }
+    ensures later { S.faults input.old ≤ S.faults input.new }
+    ensures read { result ≡ Status.ReadFault → Rose (S.faults input.old) (S.faults input.new) }
+{
+    let mut byte = [0u8; 1];
+    match input.read(&mut byte) {
+        Ok(0) => Status::Done,
+        Ok(_) => Status::BadLog { at: place },
+        Err(_) => Status::ReadFault,
+    }
+}
+
+/// Steps a record, and writes its lines. Memory that wants is a want of the sink's too.
+fn step<O: Sink>(
+    alloc: Global,
+    cluster: &mut Cluster,
+    event: Event,
+    out: &mut O,
+    server: &mut Srv,
+    table: &mut ConfTable,
+    downs: &mut Vec<FaultPoint>,
+) -> Result<(), SinkErr>
+    requires array { HasArray cluster.old.limits (state server.old).tree table.old cluster.old.place }
+    requires room { HasRoom cluster.old.limits (state server.old).limits }
+    requires event { CanStep cluster.old.requests event }
+    requires few { cluster.old.events < 2 ^ 32 }
+    ensures stepped { Stepped cluster.old cluster.new (state server.old) (state server.new) table.old table.new
+        downs.old.items downs.new.items (O.written out.old) (O.written out.new) event result }
+    ensures cause { WriteHasCause (O.faults out.old) (O.faults out.new) result }
+    ensures limits { (state server.new).limits ≡ (state server.old).limits }
+    ensures later { (state server.old).faults ≤ (state server.new).faults }
+{
+    match cluster.step(alloc, server, table, downs, event) {
+        Ok(lines) => write_lines(alloc, out, &lines),
+        Err(_) => Err(SinkErr::NoMemory),
+    }
+}
+
+/// Takes a turn: reads the record that begins at this byte, steps it and writes its lines.
+pub fn take_turn<S: Source, O: Sink>(
+    alloc: Global,
+    k: u32,
+    cluster: &mut Cluster,
+    place: u64,
+    input: &mut S,
+    out: &mut O,
+    server: &mut Srv,
+    table: &mut ConfTable,
+    downs: &mut Vec<FaultPoint>,
+) -> Turn
+    requires interval { (0 < k) × (k ≡ cluster.old.limits.k) }
+    requires place { place < 2 ^ 63 }
+    requires array { HasArray cluster.old.limits (state server.old).tree table.old cluster.old.place }
+    requires room { HasRoom cluster.old.limits (state server.old).limits }
+    requires few { cluster.old.events < 2 ^ 32 }
+    ensures turn { Turns
+        (snapshot (S.left input.old) (O.written out.old) (state server.old) table.old downs.old.items)
+        (snapshot (S.left input.new) (O.written out.new) (state server.new) table.new downs.new.items)
+        cluster.old cluster.new place result }
+    ensures near { IsNear cluster.old cluster.new place result }
+    ensures reads { S.faults input.old ≤ S.faults input.new }
+    ensures writes { O.faults out.old ≤ O.faults out.new }
+    ensures read { result ≡ Turn.Over Status.ReadFault → Rose (S.faults input.old) (S.faults input.new) }
+    ensures write { result ≡ Turn.Over Status.WriteFault → Rose (O.faults out.old) (O.faults out.new) }
+{
+    let event = match read_record(alloc, input) {
+        Ok(event) => event,
+        Err(error) => return Turn::Over(read_status(error, place)),
+    };
+    let next = place + record_len(&event);
+    match judge(k, cluster, &event) {
+        Verdict::Wrong => Turn::Over(Status::BadLog { at: place }),
+        Verdict::Waits => Turn::Over(Status::NotBuilt { at: place }),
+        Verdict::Goes => match step(alloc, cluster, event, out, server, table, downs) {
+            Ok(()) => Turn::Goes { next },
+            Err(error) => Turn::Over(write_status(error)),
+        },
+        Verdict::Ends => match step(alloc, cluster, event, out, server, table, downs) {
+            Ok(()) => Turn::Over(finish(input, next)),
+            Err(error) => Turn::Over(write_status(error)),
+        },
+    }
+}
