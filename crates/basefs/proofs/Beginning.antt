@@ -1,7 +1,5 @@
 -- The start of a run, and its turns.
-use Rattle.std.proofs.Common.{◌≡◌, inl, inr, ℕ, suc, ◌+◌, ◌-◌, ◌<◌, ◌≤◌, List, [], ◌++◌, length, Option, Result, Ok, Err, refl, sym, ap, subst, ◌∙◌, arith}
-use Rattle.std.specs.List.{All}
-use Rattle.std.proofs.lemmas.List.{append-nil}
+use Rattle.std.proofs.Common.{◌≡◌, ℕ, suc, ◌+◌, ◌-◌, ◌<◌, ◌≤◌, List, [], ◌++◌, length, Option, Ok, Err, sym, ap, subst, arith}
 use Rattle.nfs2_types.specs.declared.Limits.{Limits}
 use Rattle.server_trait.specs.Tree.{Server}
 use Rattle.server_trait.specs.declared.ServerLimits.{ServerLimits}
@@ -15,7 +13,6 @@ use Rattle.log_stream.proofs.WriteSteps.{Appends-none}
 use Rattle.outside.specs.declared.SinkErr.{SinkErr}
 use Rattle.cluster.specs.declared.Request.{Request}
 use Rattle.cluster.specs.Served.{service}
-use Rattle.cluster.specs.Step.{Moment}
 use Rattle.cluster.specs.Run.{end_of, AreMet}
 use Rattle.cluster.specs.OverBench.{Kept, Starts, IsState}
 use Rattle.basefs.specs.declared.status.Status.{Status}
@@ -25,13 +22,12 @@ use Rattle.basefs.specs.Log.{Log, records_from}
 use Rattle.basefs.specs.Run.{Snapshot, Ran}
 use Rattle.basefs.specs.Going.{Goes, Here, Going, Turns, write_status}
 use Rattle.basefs.specs.Turns.{snapshot}
-use Rattle.basefs.specs.Replayed.{all_records, Begun, RunsAll, Unstarted}
+use Rattle.basefs.specs.Replayed.{all_records}
 use Rattle.basefs.proofs.Taking.{Goes-none, over_write}
 use Rattle.basefs.proofs.Stepped.{all_as, ran_here, printed_part, appended_all}
 use Rattle.basefs.proofs.Turning.{stops_most}
 
 module _ (limits : Limits) (kept : Kept) (server server' : Server) (table table' : ConfTable) (downs downs' : List FaultPoint) (lines : List Line) (s : Starts limits kept server server' table' downs' lines) where
-
   here : Here limits server server' table' downs' kept []
   here = record {
     state = subst (λ (q : List Request). IsState limits q kept.place server'.tree table' (end_of (service limits) downs' [])) (sym s.requests) s.state;
@@ -51,12 +47,15 @@ module _ (limits : Limits) (kept : Kept) (server server' : Server) (table table'
   -- the replica was started, and its lines were written
   pub begun : (left held held' : Option (List ℕ)) (x : Unit {0}) → Writes {E = SinkErr} held held' (text_of lines) (Ok x)
       → Going limits (all_records limits) (snapshot left held server table downs) (snapshot left held' server' table' downs') kept 16777216 24 × (kept.events ≡ 0)
-  begun left held held' x w = (record {
-    events = [];
-    goes = subst (λ (q : List Request). Goes left left (all_records limits) (records_from 16777216 limits.k q 24) []) (sym s.requests) (Goes-none left (all_records limits));
-    printed = appended_all held [] (Appends-none held) w text_is;
-    here = here;
-  }, s.events)
+  begun left held held' x w = (
+    record {
+      events = [];
+      goes = subst (λ (q : List Request). Goes left left (all_records limits) (records_from 16777216 limits.k q 24) []) (sym s.requests) (Goes-none left (all_records limits));
+      printed = appended_all held [] (Appends-none held) w text_is;
+      here = here;
+    },
+    s.events,
+  )
 
   -- a write failed
   pub begun_failed : (left held held' : Option (List ℕ)) (f : SinkErr) → limits.f ≡ 0 → Writes {T = Unit} held held' (text_of lines) (Err f)

@@ -1,18 +1,14 @@
 -- What a bench lacks.
-use Rattle.std.proofs.Common.{◌≡◌, ℕ, ◌+◌, ◌*◌, ◌<◌, ◌≤◌, Bool, true, false, cond, ltb, List, [], ◌∷◌, length, drop, get_or, slice_get, Option, Some, None, refl, sym, ap, subst, ◌∙◌, arith}
+use Rattle.std.proofs.Common.{◌≡◌, ℕ, ◌+◌, ◌*◌, ◌<◌, ◌≤◌, Bool, true, false, cond, ltb, List, [], ◌∷◌, length, drop, get_or, slice_get, Some, None, refl, sym, ap, subst, ◌∙◌, arith}
 use Rattle.std.specs.List.{position_from}
 use Rattle.std.proofs.lemmas.List.{drop_more, drop_all}
-use Rattle.std.proofs.lemmas.Bool.{le-ltb}
 use Rattle.server_trait.specs.declared.ServerLimits.{ServerLimits}
 use Rattle.log_format.specs.declared.Header.{Header}
-use Rattle.basefs.specs.declared.status.Status.{Status}
 use Rattle.basefs.specs.declared.status.Status.TheVariants as status
-use Rattle.basefs.specs.Log.{Log, Stop, too_few, too_small, stops, is_small, by_bench}
-use Rattle.basefs.specs.Run.{status_of}
-use Rattle.basefs.specs.Replayed.{IsBench, Refuses}
+use Rattle.basefs.specs.Log.{too_few, too_small, is_small}
+use Rattle.basefs.specs.Replayed.{Refuses}
 
 module _ {X : Type 0} (t : X → Bool) (xs : List X) (r : ℕ) (x : X) (within : r < length xs) (is : x ≡ get_or xs r x) (all : position_from t 0 xs ≡ position_from t r (drop r xs)) where
-
   split : position_from t 0 xs ≡ cond (t x) (Some r) (position_from t (r + 1) (drop (r + 1) xs))
   split = all ∙ ap (position_from t r) (drop_more xs r x within ∙ ap (λ (y : X). y ∷ drop (r + 1) xs) (sym is))
 

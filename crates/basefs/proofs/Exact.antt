@@ -9,7 +9,7 @@ use Rattle.server_trait.specs.declared.FaultPoint.{FaultPoint}
 use Rattle.log_format.specs.declared.Event.{Event}
 use Rattle.basefs.specs.declared.status.Status.{Status}
 use Rattle.basefs.specs.declared.status.Status.TheVariants as status
-use Rattle.basefs.specs.Log.{Log, Stop, log_of}
+use Rattle.basefs.specs.Log.{Log, log_of}
 use Rattle.basefs.specs.Run.{Says, Ends, status_of, IsFault}
 use Rattle.basefs.specs.Replayed.{Early, Started, Replayed}
 
@@ -39,7 +39,6 @@ ends_no_usage : (old left : Option (List ℕ)) (log : List ℕ → Log) (s : Sta
 ends_no_usage old left log s events p e = subst (λ (t : Status). Says t log p.taken left events) e p.says
 
 module _ {X : Type 0} (state : X → Server) (old left held held' : Option (List ℕ)) (servers servers' : List X) (tables' : List ConfTable) (downs' : List FaultPoint) (s : Status) where
-
   pub replayed_exactly : Replayed state old left held held' servers servers' tables' downs' s → IfSome old (λ bytes. (s ≡ status_of (log_of (λ x. (state x).limits) servers bytes).stop) ⊎ IsFault s)
   replayed_exactly r = by r.came
     where

@@ -1,5 +1,5 @@
 -- The records of a log: the first of them, and the others.
-use Rattle.std.proofs.Common.{◌≡◌, ℕ, suc, ◌+◌, ◌-◌, ◌<◌, ◌≤◌, Bool, true, false, cond, leb, inl, inr, List, [], ◌∷◌, ◌++◌, length, Option, Some, None, refl, ap, subst, ◌∙◌, length-append, arith}
+use Rattle.std.proofs.Common.{◌≡◌, ℕ, suc, ◌+◌, ◌-◌, ◌<◌, Bool, true, false, cond, leb, inl, inr, List, [], ◌++◌, length, Option, Some, None, refl, subst, length-append, arith}
 use Rattle.std.specs.Prelude.{◌||◌, ◌&&◌, ◌%◌, ◌==◌, not}
 use Rattle.nfs2_types.specs.declared.Time.{Time}
 use Rattle.nfs2_types.specs.Times.{is_time}
@@ -15,7 +15,7 @@ use Rattle.cluster.specs.declared.Request.{Request}
 use Rattle.cluster.specs.Run.{asked_by}
 use Rattle.cluster.specs.OverBench.{CanStep}
 use Rattle.basefs.specs.declared.verdict.Verdict.TheVariants as verdict
-use Rattle.basefs.specs.Log.{Log, bad, not_built, stops, goes_on, behind_last, judge, judge_request, last_time, falls, records_from}
+use Rattle.basefs.specs.Log.{bad, not_built, stops, goes_on, behind_last, judge, judge_request, last_time, falls, records_from}
 
 pub records_zero : (k : ℕ) (q : List Request) (place : ℕ) (bytes : List ℕ) → records_from 0 k q place bytes ≡ stops (bad place)
 unfolding records_from

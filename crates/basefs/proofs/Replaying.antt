@@ -1,7 +1,7 @@
 -- A replay from its header on.
-use Rattle.std.proofs.Common.{◌≡◌, ◌≢◌, ◌⊎◌, inl, inr, ℕ, ◌+◌, ◌*◌, ◌<◌, ◌≤◌, Bool, true, false, ltb, ◌||◌, List, [], ◌++◌, length, get_or, slice_get, slice_set, Option, Some, None, Ok, Err, refl, sym, ap, subst, ◌∙◌, append_assoc, arith}
-use Rattle.std.specs.Prelude.{◌==◌, IfSome}
-use Rattle.std.proofs.lemmas.List.{length-set, append-nil}
+use Rattle.std.proofs.Common.{◌≡◌, ◌⊎◌, inl, inr, ℕ, ◌+◌, ◌≤◌, Bool, true, false, ltb, ◌||◌, List, [], ◌++◌, length, get_or, slice_get, slice_set, Option, Some, None, Ok, Err, refl, sym, ap, subst, ◌∙◌, arith}
+use Rattle.std.specs.Prelude.{◌==◌}
+use Rattle.std.proofs.lemmas.List.{length-set}
 use Rattle.std.proofs.lemmas.Option.{slice_get_read}
 use Rattle.conf_map.specs.Stands.{HasRoom}
 use Rattle.conf_map.proofs.InStep.{slice_get-set_other, slice_get-set_same}
@@ -16,11 +16,11 @@ use Rattle.log_stream.specs.declared.ReadErr.TheVariants as read
 use Rattle.log_stream.specs.Reading.{Refuses as Unread, Reads}
 use Rattle.basefs.specs.declared.status.Status.{Status}
 use Rattle.basefs.specs.declared.status.Status.TheVariants as status
-use Rattle.basefs.specs.Log.{Log, Stop, whole, bad, not_built, too_few, too_small, stops, is_small, limits_of, by_bench, records_from, log_of}
-use Rattle.basefs.specs.Run.{IsPrefix, HoldsOf, Says, Ends, Snapshot, Ran, Stopped, IsEarly, status_of, IsFault}
+use Rattle.basefs.specs.Log.{Log, Stop, whole, bad, not_built, too_few, too_small, stops, limits_of, by_bench, log_of}
+use Rattle.basefs.specs.Run.{IsPrefix, Says, Snapshot, Ran, Stopped, IsEarly, status_of}
 use Rattle.basefs.specs.Going.{Goes, read_status}
 use Rattle.basefs.specs.Turns.{snapshot}
-use Rattle.basefs.specs.Replayed.{all_records, RunsAll, Unstarted, IsBench, Refuses, ChangesAt, Early, Started, Replayed}
+use Rattle.basefs.specs.Replayed.{all_records, RunsAll, IsBench, Refuses, ChangesAt, Early, Started, Replayed}
 use Rattle.basefs.proofs.Taking.{HoldsOf-always, IfSome-then, prefix_none, Ends-then}
 
 -- ONE POSITION
@@ -48,7 +48,6 @@ large_has_room most h servers x r is =
 -- THE HEADER
 
 module _ {X : Type 0} (most : X → ServerLimits) (servers : List X) where
-
   no_header : (bytes : List ℕ) → header_at bytes ≡ None → log_of most servers bytes ≡ stops (bad 0)
   unfolding log_of
   no_header bytes h = rw (h, log_of) refl

@@ -1,5 +1,5 @@
 -- A run that goes on by one record, and one that stops.
-use Rattle.std.proofs.Common.{◌≡◌, ◌≢◌, ℕ, suc, ◌+◌, ◌≤◌, List, [], ◌∷◌, ◌++◌, length, map, Option, Some, None, Result, Ok, Err, refl, sym, ap, subst, ◌∙◌, length-append, append_assoc, arith}
+use Rattle.std.proofs.Common.{◌≡◌, ℕ, suc, ◌+◌, ◌≤◌, List, [], ◌∷◌, ◌++◌, length, map, Option, Some, None, Ok, Err, refl, sym, ap, subst, ◌∙◌, length-append, append_assoc, arith}
 use Rattle.std.specs.List.{All, flat_map}
 use Rattle.std.specs.Io.KnownBytes.{Appends}
 use Rattle.std.proofs.lemmas.List.{map-append, append-nil}
@@ -10,7 +10,6 @@ use Rattle.nfs2_types.specs.declared.Word.{Word}
 use Rattle.server_trait.specs.Tree.{Tree, Server}
 use Rattle.server_trait.specs.declared.ConfTable.{ConfTable}
 use Rattle.server_trait.specs.declared.FaultPoint.{FaultPoint}
-use Rattle.conf_map.specs.Stands.{StandsValid}
 use Rattle.log_format.specs.declared.Event.{Event}
 use Rattle.log_format.specs.declared.Line.{Line}
 use Rattle.log_format.specs.Lines.{line_text, text_of}
@@ -24,7 +23,7 @@ use Rattle.cluster.specs.State.{Condition, Live, Down, Replica}
 use Rattle.cluster.specs.Step.{Moment, step, last}
 use Rattle.cluster.specs.Run.{faults_in, end_of, asked_by, requests_of, failed_of, AreMet}
 use Rattle.cluster.specs.Right.{IsRight}
-use Rattle.cluster.specs.OverBench.{Kept, IsSeat, IsState, RoseBy, Struck, Moves, Steps, HasArray}
+use Rattle.cluster.specs.OverBench.{Kept, IsSeat, IsState, RoseBy, Moves, Steps, HasArray}
 use Rattle.cluster.proofs.Growing.{end_more}
 use Rattle.cluster.proofs.Calm.{end_right, end_requests}
 use Rattle.basefs.specs.declared.status.Status.{Status}
@@ -88,7 +87,6 @@ all_as P Q xs f h = λ k d within. f _ (h k d within)
 
 module _ {limits : Limits} {old mid now : Server} {table table' : ConfTable} {downs downs' : List FaultPoint} {kept kept' : Kept} {events : List Event} {e : Event} {lines : List Line}
     (h : Here limits old mid table downs kept events) (s : Steps kept kept' mid now table table' downs downs' e lines) where
-
   abbrev pub m : Moment
   m = end_of (service limits) downs events
 

@@ -1,12 +1,12 @@
 -- What is taken from a source and stepped, one thing after the other.
-use Rattle.std.proofs.Common.{◌≡◌, ℕ, suc, ◌+◌, ◌≤◌, List, [], ◌∷◌, ◌++◌, length, Option, Some, None, Ok, Err, refl, sym, ap, subst, ◌∙◌, append_assoc, arith}
+use Rattle.std.proofs.Common.{◌≡◌, ℕ, suc, ◌+◌, List, [], ◌∷◌, ◌++◌, Option, Some, None, Ok, Err, refl, sym, ap, subst, ◌∙◌, append_assoc, arith}
 use Rattle.std.specs.Prelude.{IfSome}
 use Rattle.std.proofs.lemmas.List.{append-nil}
 use Rattle.log_format.specs.declared.Event.{Event}
 use Rattle.log_format.specs.Records.{record_at, record_len}
 use Rattle.log_stream.specs.declared.ReadErr.{ReadErr}
 use Rattle.log_stream.specs.declared.ReadErr.TheVariants as read
-use Rattle.log_stream.specs.Reading.{Spells, Refuses, Reads}
+use Rattle.log_stream.specs.Reading.{Refuses, Reads}
 use Rattle.log_stream.proofs.Taken.{Consumes-none, Consumes-then}
 use Rattle.outside.specs.declared.SinkErr.{SinkErr}
 use Rattle.outside.specs.declared.SinkErr.TheVariants as sink
@@ -15,7 +15,7 @@ use Rattle.cluster.specs.Run.{asked_by}
 use Rattle.basefs.specs.declared.status.Status.{Status}
 use Rattle.basefs.specs.declared.status.Status.TheVariants as status
 use Rattle.basefs.specs.declared.verdict.Verdict.TheVariants as verdict
-use Rattle.basefs.specs.Log.{Log, Stop, whole, bad, not_built, too_few, too_small, stops, goes_on, behind_last, judge, records_from}
+use Rattle.basefs.specs.Log.{Log, bad, not_built, too_few, too_small, stops, behind_last, judge, records_from}
 use Rattle.basefs.specs.Run.{IsPrefix, HoldsOf, Says, Ends}
 use Rattle.basefs.specs.Going.{behind, Goes, read_status, write_status, FinishSays, Finishes}
 use Rattle.basefs.proofs.Records.{records_zero, records_none, records_wrong, records_wait, spelled_goes, spelled_ends}

@@ -21,7 +21,7 @@ use Rattle.basefs.specs.declared.turn.Turn.TheVariants as turns
 use Rattle.basefs.specs.Log.{Log, stops, behind_last, judge, records_from}
 use Rattle.basefs.specs.Run.{Snapshot, Ends, Ran}
 use Rattle.basefs.specs.Going.{Goes, Going, Turns, Finishes, read_status, write_status}
-use Rattle.basefs.specs.Turns.{snapshot, Stepped, Written, Wanted}
+use Rattle.basefs.specs.Turns.{snapshot, Stepped, Written}
 use Rattle.basefs.proofs.Taking.{Ends-then, Goes-then, over_read, over_wrong, over_waits, over_memory, one_goes, over_write, last_goes, over_finish, over_most}
 use Rattle.basefs.proofs.Stepped.{here_more, text_more, ran_here, ran_short, printed_all, printed_part, appended_all}
 
@@ -37,7 +37,6 @@ pub stops_most : {limits : Limits} {log : List ℕ → Log} {old : Snapshot} {le
 stops_most {limits = limits} {left = left} {kept = kept} {place = place} one g = stops_here one g (over_most left limits.k kept.requests place)
 
 module _ (k : ℕ) (left left' held : Option (List ℕ)) (server : Server) (table : ConfTable) (downs : List FaultPoint) (kept : Kept) (place : ℕ) (e : Event) (kept_k : k ≡ kept.limits.k) (r : Reads record_at (λ (x : Event). x) left left' (Ok e)) where
-
   abbrev Before : Limits → (List ℕ → Log) → Snapshot → ℕ → Type 0
   Before limits log old n = Going limits log old (snapshot left held server table downs) kept n place
 
@@ -51,7 +50,6 @@ module _ (k : ℕ) (left left' held : Option (List ℕ)) (server : Server) (tabl
   turn_waits j limits log old n one g = stops_here one g (over_waits n limits.k kept.requests place r (judged limits log old (suc n) verdict.Waits g j))
 
   module _ (held' : Option (List ℕ)) (server' : Server) (table' : ConfTable) (downs' : List FaultPoint) (kept' : Kept) where
-
     -- a record was stepped, and its lines were written
     pub turn_goes : (x : Unit) → judge k kept.requests e ≡ verdict.Goes → Written kept kept' server server' table table' downs downs' held held' e (Ok x)
         → Turns (snapshot left held server table downs) (snapshot left' held' server' table' downs') kept kept' place (turns.Goes (place + record_len e))
@@ -68,17 +66,17 @@ module _ (k : ℕ) (left left' held : Option (List ℕ)) (server : Server) (tabl
         → Ran limits log old (snapshot left' held' server' table' downs') (write_status f)
     wrote_part limits log old n f rest one g goes w =
         ran_here one (here_more g.here w.steps)
-          (subst (Ends old.left left' log (write_status f)) (append-nil (g.events ++ e ∷ [])) (Ends-then (Goes-then g.goes goes) (over_write f rest left')))
-          (printed_part _ g.printed w.writes (text_more g.here w.steps))
+        (subst (Ends old.left left' log (write_status f)) (append-nil (g.events ++ e ∷ [])) (Ends-then (Goes-then g.goes goes) (over_write f rest left')))
+        (printed_part _ g.printed w.writes (text_more g.here w.steps))
 
     wanted : (limits : Limits) (log : List ℕ → Log) (old : Snapshot) (n : ℕ) → server.faults ≤ server'.faults → server'.limits ≡ server.limits → downs' ≡ downs → held' ≡ held → limits.f ≡ 0
         → Before limits log old n → Ran limits log old (snapshot left' held' server' table' downs') status.NoMemory
     wanted limits log old n later same d h one g =
         subst (λ (x : List FaultPoint). Ran limits log old (snapshot left' held' server' table' x) status.NoMemory) (sym d)
         (subst (λ (x : Option (List ℕ)). Ran limits log old (snapshot left' x server' table' downs) status.NoMemory) (sym h)
-          (ran_short one g.here later same
-            (subst (Ends old.left left' log status.NoMemory) (append-nil g.events) (Ends-then g.goes (over_memory (records_from n limits.k kept.requests place) r)))
-            (printed_all status.NoMemory g.printed)))
+        (ran_short one g.here later same
+        (subst (Ends old.left left' log status.NoMemory) (append-nil g.events) (Ends-then g.goes (over_memory (records_from n limits.k kept.requests place) r)))
+        (printed_all status.NoMemory g.printed)))
 
     err_is : (f : SinkErr) (x : Result Unit SinkErr) → x ≡ Err f → x ≡ Err sink.NoMemory → write_status f ≡ status.NoMemory
     err_is f x h k = let same : f ≡ sink.NoMemory = cc in ap write_status same
@@ -99,9 +97,9 @@ module _ (k : ℕ) (left left' held : Option (List ℕ)) (server : Server) (tabl
         → Turns (snapshot left held server table downs) (snapshot left'' held' server' table' downs') kept kept' place (turns.Over f)
     turn_ends x left'' f j w finish limits log old n one g =
         ran_here one (here_more g.here w.steps)
-          (subst (Ends old.left left'' log f) (append-nil (g.events ++ e ∷ []))
-            (Ends-then (Goes-then g.goes (last_goes n limits.k kept.requests place r (judged limits log old (suc n) verdict.Ends g j))) (over_finish (place + record_len e) finish)))
-          (printed_all f (appended_all old.held _ g.printed w.writes (text_more g.here w.steps)))
+        (subst (Ends old.left left'' log f) (append-nil (g.events ++ e ∷ []))
+        (Ends-then (Goes-then g.goes (last_goes n limits.k kept.requests place r (judged limits log old (suc n) verdict.Ends g j))) (over_finish (place + record_len e) finish)))
+        (printed_all f (appended_all old.held _ g.printed w.writes (text_more g.here w.steps)))
 
 -- no record was read
 pub turn_read : {k : ℕ} {left left' held : Option (List ℕ)} {server : Server} {table : ConfTable} {downs : List FaultPoint} {kept : Kept} {place : ℕ} {e : ReadErr} → k ≡ kept.limits.k → Reads record_at (λ (x : Event). x) left left' (Err e)

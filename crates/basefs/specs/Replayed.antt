@@ -49,7 +49,6 @@ Refuses {X} most h servers None =
     (3 * h.f + 1 ≤ length servers) × ((x : X) → slice_get servers 0 ≡ Some x → is_small h (most x) ≡ false) × ((log : Log) → by_bench most h servers log ≡ log)
 Refuses {X} most h servers (Some s) = (stop : Stop) × (s ≡ status_of stop) × IsBench stop × ((log : Log) → by_bench most h servers log ≡ stops stop)
 
-
 -- only this position may differ
 pub record ChangesAt {X : Type 0} (r : ℕ) (old new : List X) : Type 0 where
   pub size : length new ≡ length old

@@ -1,6 +1,5 @@
 -- What a turn does.
-use Rattle.std.specs.Prelude.{◌≡◌, ℕ, suc, ◌+◌, ◌≤◌, List, Option, Result, Ok, Err, ◌⊎◌}
-use Rattle.std.specs.Io.KnownBytes.{Appends, Keeps}
+use Rattle.std.specs.Prelude.{◌≡◌, ℕ, suc, ◌+◌, ◌≤◌, List, Option, Result, Err, ◌⊎◌}
 use Rattle.server_trait.specs.Tree.{Server}
 use Rattle.server_trait.specs.declared.ConfTable.{ConfTable}
 use Rattle.server_trait.specs.declared.FaultPoint.{FaultPoint}
@@ -10,7 +9,7 @@ use Rattle.log_format.specs.Lines.{text_of}
 use Rattle.log_stream.specs.Writing.{Writes}
 use Rattle.outside.specs.declared.SinkErr.{SinkErr}
 use Rattle.outside.specs.declared.SinkErr.TheVariants.{NoMemory}
-use Rattle.cluster.specs.OverBench.{Kept, Steps, RoseBy}
+use Rattle.cluster.specs.OverBench.{Kept, Steps}
 use Rattle.basefs.specs.declared.turn.Turn.{Turn}
 use Rattle.basefs.specs.declared.turn.Turn.TheVariants.{Goes, Over}
 use Rattle.basefs.specs.Run.{Snapshot}

@@ -16,8 +16,7 @@ use std::collections::BTreeMap;
 fn is_small(header: &Header, most: ServerLimits) -> bool
     ensures { result ≡ is_small_for header.now most }
 {
-    u64::from(most.nodes) < u64::from(header.n) + 3
-        || most.bytes < u64::from(header.t) + 1_048_576
+    u64::from(most.nodes) < u64::from(header.n) + 3 || most.bytes < u64::from(header.t) + 1_048_576
 }
 
 /// The first server that is too small.

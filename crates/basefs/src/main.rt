@@ -8,6 +8,8 @@ mod program;
 mod replay;
 mod run;
 mod status;
+#[cfg(test)]
+mod tests;
 mod turn;
 mod verdict;
 

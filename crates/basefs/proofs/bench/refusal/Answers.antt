@@ -1,4 +1,4 @@
-use Rattle.std.proofs.Common.{sym, ◌∙◌}
+use Rattle.std.proofs.Common.{sym}
 use Rattle.basefs.proofs.Benches.{refuses_few, refuses_small, refuses_none}
 use Rattle.basefs.proofs.bench.refusal.Goals as goal
 

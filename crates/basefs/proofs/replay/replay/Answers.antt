@@ -1,5 +1,5 @@
-use Rattle.std.proofs.Common.{◌≡◌, ◌≤◌, eqb, length, ap, true, false, refl, sym, arith}
-use Rattle.basefs.proofs.Replaying.{stopped_unread, stopped_replicas, stopped_short, stopped_bench, large_has_room, replayed_early, replayed_run}
+use Rattle.std.proofs.Common.{◌≡◌, ◌≤◌, eqb, length, ap, true, false, refl, arith}
+use Rattle.basefs.proofs.Replaying.{stopped_unread, stopped_replicas, stopped_bench, large_has_room, replayed_early, replayed_run}
 use Rattle.basefs.proofs.replay.replay.Goals as goal
 
 pub returns-in-Err-clause-replayed : goal.returns-in-Err-clause-replayed
@@ -36,4 +36,4 @@ returns-clause-replayed g c =
     let none : eqb c.in-Ok.header.f 0 ≡ true = grind arith in
     let tables : 1 ≤ length c.prepare.new.bench.tables.items = (let enough = (rw c.deref.ensures.value at c.in_default.ensures).0 in omega (arith, enough, c.in-Ok-prepare.ensures.tables, c.args.bench.now.servers.ok.0, c.prepare.new.bench.tables.ok.0)) in
     replayed_run _ _ (g.S.Source.left c.read_header.new.input) _ _ _ c.args.bench.now.servers.items c.prepare.new.bench.servers.items c.prepare.new.bench.tables.items _ _ c.in-Ok.header c.run.result c.index_mut.result.now c.run.new.server c.index_mut-2.result.now c.run.new.table
-      c.in-Ok-prepare.ensures.servers tables c.index_mut.ensures.value c.index_mut-2.ensures.value c.in-Ok.ensures.bytes none (rw c.deref.ensures.value at c.in_default.ensures) c.run.ensures.ran
+    c.in-Ok-prepare.ensures.servers tables c.index_mut.ensures.value c.index_mut-2.ensures.value c.in-Ok.ensures.bytes none (rw c.deref.ensures.value at c.in_default.ensures) c.run.ensures.ran

@@ -1,4 +1,4 @@
-use Rattle.std.proofs.Common.{inl, inr, refl}
+use Rattle.std.proofs.Common.{inl}
 use Rattle.std.proofs.lemmas.Result.{err_from_is_err_and}
 use Rattle.basefs.proofs.Beginning.{begun, begun_failed}
 use Rattle.basefs.proofs.run.begin.Goals as goal

@@ -1,4 +1,4 @@
-use Rattle.std.proofs.Common.{inl, inr, refl, sym, arith}
+use Rattle.std.proofs.Common.{inl, refl, arith}
 use Rattle.basefs.proofs.Stepped.{has_array}
 use Rattle.basefs.proofs.Beginning.{turned, turned_over, turned_most, has_room}
 use Rattle.basefs.proofs.run.run.Goals as goal

@@ -7,9 +7,9 @@ use Rattle.basefs.proofs.run.run.Given as goal
 abbrev pub invariant-loop-turn : goal.invariant-loop-turn
 invariant-loop-turn g l = record {
   going : Going l.limits (all_records l.limits)
-    (snapshot (g.S.Source.left l.fn.input) (g.O.Sink.written l.fn.out) ((goal.FileServer-dyn g (l.fn.server.vtable, l.fn.server.value)).state l.fn.server.value) l.fn.table l.fn.downs.items)
-    (snapshot (g.S.Source.left l.input) (g.O.Sink.written l.out) ((goal.FileServer-dyn g (l.server.vtable, l.server.value)).state l.server.value) l.table l.downs.items)
-    l.cluster (16777216 - l._turn) l.place;
+      (snapshot (g.S.Source.left l.fn.input) (g.O.Sink.written l.fn.out) ((goal.FileServer-dyn g (l.fn.server.vtable, l.fn.server.value)).state l.fn.server.value) l.fn.table l.fn.downs.items)
+      (snapshot (g.S.Source.left l.input) (g.O.Sink.written l.out) ((goal.FileServer-dyn g (l.server.vtable, l.server.value)).state l.server.value) l.table l.downs.items)
+      l.cluster (16777216 - l._turn) l.place;
   near : l.place ≤ 24 + 65560 * l._turn;
   counted : l.cluster.events ≡ l._turn;
   reads : g.S.Source.faults l.fn.input ≤ g.S.Source.faults l.input;

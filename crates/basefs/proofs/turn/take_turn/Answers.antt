@@ -1,5 +1,5 @@
 use Rattle.std.proofs.Common.{inl, inr, sym}
-use Rattle.basefs.proofs.Records.{can_step, last_can_step}
+use Rattle.basefs.proofs.Records.{can_step}
 use Rattle.basefs.proofs.Turning.{turn_read, turn_wrong, turn_waits, turn_goes, turn_failed, turn_ends, not_wanted}
 use Rattle.basefs.proofs.turn.take_turn.Goals as goal
 
