@@ -1,7 +1,7 @@
 //! BASEFS: a file service of NFS version 2 (RFC 1094) over replicas, which reads its requests from a log.
 #![tactic(auto)]
 
-ghost use Rattle.std.specs.Prelude.{◌<◌, ◌^◌, IfOk, vec_len};
+ghost use Rattle.std.specs.Prelude.{◌<◌, ◌^◌, vec_len};
 
 mod bench;
 mod program;
@@ -13,14 +13,12 @@ mod tests;
 mod turn;
 mod verdict;
 
-use nfs2_types::NoMemory;
 use outside::{MemClock, MemLink};
 use outside_real::{StdSink, StdSource};
 use path_server::PathServer;
 use program::basefs;
 use server_trait::{Bench, ServerLimits, Srv};
 use status::Status;
-use std::alloc::Global;
 use std::env;
 use std::env::Env;
 use std::io::ErrorKind;
@@ -47,54 +45,43 @@ fn words<R: Env + AllocGlobal>(rt: &R) -> Result<Vec<String>, Status> {
     }
 }
 
-/// A server that keeps its nodes by whole paths.
-fn path_server(alloc: Global) -> Result<Srv, NoMemory> {
-    let server = PathServer::new(alloc, LIMITS)?;
-    match Box::new(alloc, server) {
-        Ok(server) => Ok(server),
-        Err(_) => Err(NoMemory),
-    }
-}
-
-/// The bench of the program.
-fn new_bench(alloc: Global) -> Result<Bench, NoMemory>
-    ensures { IfOk result (λ bench. vec_len bench.servers < 2 ^ 32) }
+/// Runs the program over the standard streams and a bench.
+fn run_over(rt: &HostRuntime, words: &[String], bench: &mut Bench) -> Status
+    requires { vec_len bench.old.servers < 2 ^ 32 }
 {
-    let mut servers = Vec::new(alloc);
-    for _server in 0..SERVERS {
-        if servers.push(path_server(alloc)?).is_err() {
-            return Err(NoMemory);
-        }
-    }
-    Ok(Bench::new(alloc, servers))
+    let alloc = rt.alloc();
+    let mut input = StdSource::new(rt);
+    let mut out = StdSink::new(rt);
+    let mut link = MemLink::new(alloc, Vec::new(alloc), Vec::new(alloc));
+    let mut clock = MemClock::new(Vec::new(alloc));
+    basefs(
+        alloc, words, &mut input, &mut out, &mut link, &mut clock, bench,
+    )
 }
 
-/// Runs the program over the standard streams.
-fn run_main(rt: &HostRuntime) -> Status {
+/// Makes the bench, and runs the program over it.
+fn run_all(rt: &HostRuntime) -> Status {
     let words = match words(rt) {
         Ok(words) => words,
         Err(status) => return status,
     };
-    let Ok(mut bench) = new_bench(rt.alloc()) else {
-        return Status::NoMemory;
-    };
-    let mut input = StdSource::new(rt);
-    let mut out = StdSink::new(rt);
-    let mut link = MemLink::new(rt.alloc(), Vec::new(rt.alloc()), Vec::new(rt.alloc()));
-    let mut clock = MemClock::new(Vec::new(rt.alloc()));
-    basefs(
-        rt.alloc(),
-        &words,
-        &mut input,
-        &mut out,
-        &mut link,
-        &mut clock,
-        &mut bench,
-    )
+    let mut servers: Vec<Srv> = Vec::new(rt.alloc());
+    for _server in 0..SERVERS {
+        let Ok(server) = PathServer::new(rt.alloc(), LIMITS) else {
+            return Status::NoMemory;
+        };
+        let Ok(server) = Box::new(rt.alloc(), server) else {
+            return Status::NoMemory;
+        };
+        if servers.push(server).is_err() {
+            return Status::NoMemory;
+        }
+    }
+    run_over(rt, &words, &mut Bench::new(rt.alloc(), servers))
 }
 
 fn main(rt: HostRuntime) -> ExitCode {
-    let status = run_main(&rt);
+    let status = run_all(&rt);
     if status != Status::Done {
         let _ = eprintln!(rt; "{status}");
     }

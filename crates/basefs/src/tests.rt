@@ -6,7 +6,7 @@ use super::*;
 use nfs2_types::Handle;
 use outside::{MemSink, MemSource};
 use server_trait::{FileServer, NodeAttr, SrvErr};
-use std::alloc::AllocError;
+use std::alloc::{AllocError, Global};
 use std::test::Fail;
 
 /// The bytes of words, the high byte first.
