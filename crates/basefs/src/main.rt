@@ -4,6 +4,8 @@
 ghost use Rattle.std.specs.Prelude.{◌<◌, ◌^◌, vec_len};
 
 mod bench;
+#[cfg(test)]
+mod broken;
 mod program;
 mod replay;
 mod run;

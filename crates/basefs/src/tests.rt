@@ -1,11 +1,10 @@
 //! Runs of the program over memory. The numbers of the calls are those of RFC 5531 and RFC 1094.
 
-ghost use Rattle.std.specs.Prelude.{◌≤◌, None};
+ghost use Rattle.std.specs.Prelude.{◌≤◌};
 
 use super::*;
-use nfs2_types::Handle;
+use crate::broken::Broken;
 use outside::{MemSink, MemSource};
-use server_trait::{FileServer, NodeAttr, SrvErr};
 use std::alloc::{AllocError, Global};
 use std::test::Fail;
 
@@ -333,53 +332,9 @@ fn servers_that_are_too_small(rt: HostRuntime) -> Result<(), Fail> {
     Ok(())
 }
 
-/// A server that fails at each wipe, so that it never has a tree.
-#[derive(Drop)]
-struct Broken {
-    limits: ServerLimits,
-    faults: u64,
-}
-
-impl FileServer for Broken {
-    ghost state = { λ s. record { tree = None; limits = s.limits; faults = s.faults } };
-
-    fn limits(&self) -> ServerLimits {
-        self.limits
-    }
-
-    fn root(&self) -> Handle {
-        [0; 32]
-    }
-
-    fn attr(&mut self, _node: &Handle) -> Result<NodeAttr, SrvErr> {
-        Err(SrvErr::Stale)
-    }
-
-    fn lookup(&mut self, _dir: &Handle, _name: &[u8]) -> Result<Handle, SrvErr> {
-        Err(SrvErr::Stale)
-    }
-
-    fn set_attr(&mut self, _node: &Handle, _mode: u32, _uid: u32, _gid: u32) -> Result<(), SrvErr> {
-        Err(SrvErr::Stale)
-    }
-
-    fn mkdir(&mut self, _dir: &Handle, _name: &[u8]) -> Result<Handle, SrvErr> {
-        Err(SrvErr::Stale)
-    }
-
-    fn wipe(&mut self) -> Result<(), SrvErr> {
-        self.faults = self.faults.saturating_add(1);
-        Err(SrvErr::Fault)
-    }
-}
-
 #[test]
 fn a_server_that_fails_at_the_start(rt: HostRuntime) -> Result<(), Fail> {
-    let broken = Broken {
-        limits: LIMITS,
-        faults: 0,
-    };
-    let server: Srv = Box::new(rt.alloc(), broken)?;
+    let server: Srv = Box::new(rt.alloc(), Broken::new(LIMITS))?;
     let (status, text) = run_over(rt.alloc(), null_log(rt.alloc())?, WHOLE, server)?;
     assert_eq!(rt; status, Status::Done);
     assert_eq!(rt; text.as_slice(), b"down 0\nat 0 down\n".as_slice());
