@@ -1,5 +1,5 @@
 -- A replay from its header on.
-use Rattle.std.proofs.Common.{◌≡◌, ◌⊎◌, inl, inr, ℕ, ◌+◌, ◌≤◌, Bool, true, false, ltb, ◌||◌, List, [], ◌++◌, length, get_or, slice_get, slice_set, Option, Some, None, Ok, Err, refl, sym, ap, subst, ◌∙◌, arith}
+use Rattle.std.proofs.Common.{◌≡◌, ◌⊎◌, inl, inr, ℕ, ◌+◌, ◌≤◌, true, false, ltb, List, [], ◌++◌, length, get_or, slice_get, slice_set, Option, Some, None, Ok, Err, refl, sym, ap, subst, ◌∙◌, arith}
 use Rattle.std.specs.Prelude.{◌==◌}
 use Rattle.std.proofs.lemmas.List.{length-set}
 use Rattle.std.proofs.lemmas.Option.{slice_get_read}
@@ -21,6 +21,7 @@ use Rattle.basefs.specs.Run.{IsPrefix, Says, Snapshot, Ran, Stopped, IsEarly, st
 use Rattle.basefs.specs.Going.{Goes, read_status}
 use Rattle.basefs.specs.Turns.{snapshot}
 use Rattle.basefs.specs.Replayed.{all_records, RunsAll, IsBench, Refuses, ChangesAt, Early, Started, Replayed}
+use Rattle.basefs.proofs.Records.{or_false}
 use Rattle.basefs.proofs.Taking.{HoldsOf-always, IfSome-then, prefix_none, Ends-then}
 
 -- ONE POSITION
@@ -33,10 +34,6 @@ changes_none r xs = record { size = refl; others = λ k ne. refl }
 
 read_at : {X : Type 0} (xs : List X) (x : X) → 1 ≤ length xs → x ≡ get_or xs 0 x → slice_get xs 0 ≡ Some x
 read_at xs x some is = slice_get_read xs (length xs) 0 x refl some is
-
-or_false : (a b : Bool) → (a || b) ≡ false → (a ≡ false) × (b ≡ false)
-or_false true b e = absurd cc
-or_false false b e = (refl, e)
 
 -- a server that is not too small has room
 pub large_has_room : {X : Type 0} (most : X → ServerLimits) (h : Header) (servers : List X) (x : X) → Refuses most h servers None → x ≡ get_or servers 0 x → HasRoom (limits_of h) (most x)

@@ -23,8 +23,9 @@ fn is_replay(words: &[String]) -> bool
     }
 }
 
-/// All that the program does, over the words behind its name: it reads a log from the source, runs it over the servers
-/// of the bench, and writes its lines to the sink. Link and clock are not used yet.
+/// All that the program does, over the words behind its name: it reads a log from the source, runs it over
+/// the servers of the bench, and writes its lines to the sink. Link and clock are not used yet. The status
+/// says how it ended; each has its cause below.
 pub fn basefs<S: Source, O: Sink, N: Link, C: Clock>(
     alloc: Global,
     words: &[String],
@@ -38,16 +39,19 @@ pub fn basefs<S: Source, O: Sink, N: Link, C: Clock>(
     ensures usage { (result ≡ Status.Usage) ↔ ¬ (IsReplay words.now) }
 
     // Words that are no command touch nothing.
-    ensures untouched { result ≡ Status.Usage → (input.new ≡ input.old) × (out.new ≡ out.old) × (bench.new ≡ bench.old) }
+    ensures untouched { result ≡ Status.Usage →
+        (input.new ≡ input.old) × (out.new ≡ out.old) × (bench.new ≡ bench.old) }
 
-    // Where the source tells its bytes, the status is that of the log that they are, unless the outside fails or memory
-    // wants.
+    // Where the source tells its bytes, the status is that of the log that they are, unless the outside
+    // fails or memory wants.
     ensures exact { IsReplay words.now → IfSome (S.left input.old) (λ bytes.
-        (result ≡ status_of (log_of (λ s. (⟦<Srv as FileServer>⟧.state s).limits) bench.old.servers.items bytes).stop) ⊎ IsFault result) }
+        let log = log_of (λ s. (⟦<Srv as FileServer>⟧.state s).limits) bench.old.servers.items bytes in
+        (result ≡ status_of log.stop) ⊎ IsFault result) }
 
-    // Either nothing was started and written; or the replica was started, the records of the log were stepped up to
-    // the one that stops the run, each reply that was written is the service's at its place, and the server of the
-    // replica, if that is live, holds exactly the array of the service at the replica's place.
+    // Either nothing was started and written; or the replica was started, the records of the log were
+    // stepped up to the one that stops the run, each reply among its lines is the service's at its place,
+    // and the server of the replica, if that is live, holds exactly the array of the service at the
+    // replica's place.
     ensures run { IsReplay words.now → Replayed ⟦<Srv as FileServer>⟧.state
         (S.left input.old) (S.left input.new) (O.written out.old) (O.written out.new)
         bench.old.servers.items bench.new.servers.items bench.new.tables.items bench.new.downs.items result }
