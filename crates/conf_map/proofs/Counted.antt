@@ -4,7 +4,7 @@ use Rattle.std.specs.Prelude.{sum_by}
 use Rattle.std.specs.FinMap.{get, remove}
 use Rattle.server_trait.specs.Tree.{Tree, Node, Names, ByBytes, node_at}
 use Rattle.server_trait.specs.Sums.{total}
-use Rattle.server_trait.proofs.Listed.{IsListed, total-listed}
+use Rattle.server_trait.proofs.KeyedSums.{IsListed, total-listed}
 use Rattle.server_trait.proofs.TreeLaws.{is_some_and, some_none, some_same, and_then_some, get-remove_same, get-remove_other, total-remove}
 use Rattle.server_trait.specs.declared.bench.ConfEntry.{ConfEntry}
 use Rattle.server_trait.specs.declared.bench.ConfTable.{ConfTable}

@@ -1,4 +1,4 @@
-pub mod Listed
+pub mod KeyedSums
 pub mod SoftLaws
 pub mod SumLaws
 pub mod TreeLaws

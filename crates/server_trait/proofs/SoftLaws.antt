@@ -2,12 +2,12 @@
 use Rattle.std.proofs.Common.{true, false, ◌≡◌, ℕ, List, Option, Some, None, IsSome, IsSomeAnd, Ok, Err, refl, sym, ap, ◌∙◌}
 use Rattle.std.specs.Option.{option_and_then}
 use Rattle.std.specs.FinMap.{get, insert}
-use Rattle.server_trait.specs.Tree.{Tree, Server, named, edited, with_node, with_names, with_attr, new_node, Node, Names, Content, node_at, names_in, names_at, target}
+use Rattle.server_trait.specs.Tree.{Tree, Server, named, edited, with_node, with_names, with_attr, new_node, Node, Names, Content, node_at, bytes_in, text_in, names_in, bytes_at, text_at, names_at, target}
 use Rattle.server_trait.specs.Step.{OnlySoft, Outcome, IsBroken, IsStale, IsNo, LacksName}
-use Rattle.server_trait.specs.Calls.{NodeErr, Made, Make, SetAttr, DirErr, LookupErr, MakeErr}
+use Rattle.server_trait.specs.Calls.{NodeErr, Made, Make, SetAttr, ContentErr, WriteErr, SetSizeErr, DirErr, LookupErr, MakeErr}
 use Rattle.server_trait.proofs.TreeLaws.{node_at-edited_other, get-insert_same, some_and, some_none, some_same, and_then_some}
 use Rattle.server_trait.specs.declared.server.SrvErr.{SrvErr}
-use Rattle.server_trait.specs.declared.server.SrvErr.TheVariants.{Stale, NoEnt, Exists, NotDir, Full, Fault, NoMemory}
+use Rattle.server_trait.specs.declared.server.SrvErr.TheVariants.{Stale, NoEnt, Exists, NotDir, WrongKind, Refused, Full, Fault, NoMemory}
 use Rattle.server_trait.specs.declared.server.ServerLimits.{ServerLimits}
 
 pub some_of : {A : Type 0} (o : Option A) → IsSome o → (x : A) × (o ≡ Some x)
@@ -27,6 +27,29 @@ module _ {X : Type 0} (view : Content → Option X) (t : Tree) (h : List ℕ) (x
 pub node_soft : (t : Tree) (h : List ℕ) (n : Node) → node_at t h ≡ Some n → OnlySoft (NodeErr h t)
 node_soft t h n is Stale a = some_none is a
 node_soft t h n is e a = absurd a
+
+pub read_soft : (t : Tree) (h b : List ℕ) → bytes_at t h ≡ Some b → OnlySoft (ContentErr bytes_in h t)
+read_soft t h b is Stale a = not_stale bytes_in t h b is a
+read_soft t h b is WrongKind a = not_other bytes_in t h b is a
+read_soft t h b is e a = absurd a
+
+pub read_link_soft : (t : Tree) (h b : List ℕ) → text_at t h ≡ Some b → OnlySoft (ContentErr text_in h t)
+read_link_soft t h b is Stale a = not_stale text_in t h b is a
+read_link_soft t h b is WrongKind a = not_other text_in t h b is a
+read_link_soft t h b is e a = absurd a
+
+pub write_soft : (limits : ServerLimits) (t : Tree) (h b : List ℕ) (offset count : ℕ) → bytes_at t h ≡ Some b → OnlySoft (WriteErr limits h offset count t)
+write_soft limits t h b offset count is Stale a = not_stale bytes_in t h b is a
+write_soft limits t h b offset count is WrongKind a = not_other bytes_in t h b is a
+write_soft limits t h b offset count is Refused a = tt
+write_soft limits t h b offset count is Full a = tt
+write_soft limits t h b offset count is e a = absurd a
+
+pub set_size_soft : (limits : ServerLimits) (t : Tree) (h b : List ℕ) (size : ℕ) → bytes_at t h ≡ Some b → OnlySoft (SetSizeErr limits h size t)
+set_size_soft limits t h b size is Stale a = not_stale bytes_in t h b is a
+set_size_soft limits t h b size is WrongKind a = not_other bytes_in t h b is a
+set_size_soft limits t h b size is Full a = tt
+set_size_soft limits t h b size is e a = absurd a
 
 pub dir_soft : (t : Tree) (dir : List ℕ) (m : Names) → names_at t dir ≡ Some m → OnlySoft (DirErr dir t)
 dir_soft t dir m is Stale a = not_stale names_in t dir m is a

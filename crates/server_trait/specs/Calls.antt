@@ -1,12 +1,15 @@
 -- What each call of a file server may do: which errors apply to it, and what its Ok has done.
-use Rattle.std.specs.Prelude.{◌≡◌, ◌≢◌, ℕ, ◌+◌, List, Option, Some, None, Result, Ok, Err, IsSomeAnd}
-use Rattle.std.specs.FinMap.{insert, empty}
-use Rattle.server_trait.specs.Tree.{Tree, Node, Content, NamesOf, Server, node_at, names_in, target, kind_of, size_of, links_of, new_node, with_attr, with_node, edited, named}
+use Rattle.std.specs.Prelude.{◌≡◌, ◌≢◌, max, ℕ, ◌+◌, ◌≤◌, ◌<◌, List, [], length, take, drop, Option, Some, None, option_map, Result, Ok, Err, IsSomeAnd, slice_get, Vec}
+use Rattle.std.specs.FinMap.{get, insert, empty}
+use Rattle.std.specs.declared.alloc.Global.{Global}
+use Rattle.nfs2_types.specs.Bytes.{resized, overwritten}
+use Rattle.server_trait.specs.Tree.{Tree, Node, Names, Content, BytesOf, TextOf, NamesOf, Server, node_at, bytes_in, text_in, names_in, bytes_at, text_at, names_at, target, kind_of, size_of, links_of, new_node, with_attr, with_bytes, with_node, edited, named}
 use Rattle.server_trait.specs.Step.{Counts, Outcome, Called, IsStale, IsNo, HasName, LacksName, NoRoom}
 use Rattle.server_trait.specs.declared.server.SrvErr.{SrvErr}
-use Rattle.server_trait.specs.declared.server.SrvErr.TheVariants.{Stale, NoEnt, Exists, NotDir, Full, Fault, NoMemory}
+use Rattle.server_trait.specs.declared.server.SrvErr.TheVariants.{Stale, NoEnt, Exists, NotDir, WrongKind, Refused, Full, Fault, NoMemory}
 use Rattle.server_trait.specs.declared.server.ServerLimits.{ServerLimits}
 use Rattle.server_trait.specs.declared.server.NodeAttr.{NodeAttr}
+use Rattle.server_trait.specs.declared.server.Listed.{Listed}
 
 -- CALLS ON ANY NODE
 
@@ -33,6 +36,47 @@ Attr old h r new = Called (λ t. Outcome (λ a after. IsSomeAnd (node_at t h) (I
 abbrev pub SetAttr : Server → List ℕ → ℕ → ℕ → ℕ → Result Unit SrvErr → Server → Type 0
 SetAttr old h mode uid gid r new = Called (λ t. Outcome (λ _ after. after ≡ Some (edited t h (with_attr mode uid gid))) (NodeErr h t) t) old r new
 
+-- FILES AND LINKS
+
+-- the errors of a call on a node whose content is of one kind
+abbrev pub ContentErr : {X : Type 0} → (Content → Option X) → List ℕ → Tree → SrvErr → Type 0
+ContentErr view h t Stale = IsStale t h
+ContentErr view h t WrongKind = IsNo view t h
+ContentErr view h t e = ⊥
+
+-- `read`: all bytes from the offset up to the count or the end
+abbrev pub Read : Server → List ℕ → ℕ → ℕ → Result (Vec ℕ Global) SrvErr → Server → Type 0
+Read old h offset count r new = Called (λ t. Outcome (λ v after. (option_map (λ b. take count (drop offset b)) (bytes_at t h) ≡ Some v.items) × (after ≡ Some t)) (ContentErr bytes_in h t) t) old r new
+
+-- `read_link`: the text
+abbrev pub ReadLink : Server → List ℕ → Result (Vec ℕ Global) SrvErr → Server → Type 0
+ReadLink old h r new = Called (λ t. Outcome (λ v after. (text_at t h ≡ Some v.items) × (after ≡ Some t)) (ContentErr text_in h t) t) old r new
+
+-- the errors of a call that writes so many bytes at an offset
+abbrev pub WriteErr : ServerLimits → List ℕ → ℕ → ℕ → Tree → SrvErr → Type 0
+WriteErr limits h offset count t Refused = IsSomeAnd (bytes_at t h) (λ b. length b < offset)
+WriteErr limits h offset count t Full = IsSomeAnd (bytes_at t h) (λ b. NoRoom limits t 0 (length b) (max (length b) (offset + count)))
+WriteErr limits h offset count t e = ContentErr bytes_in h t e
+
+-- so many bytes of the piece stand at the offset, at least one
+pub record Wrote (t : Tree) (h : List ℕ) (offset : ℕ) (piece : List ℕ) (count : ℕ) (new : Option Tree) : Type 0 where
+  pub some : 1 ≤ count
+  pub most : count ≤ length piece
+  pub after : new ≡ Some (edited t h (with_bytes (overwritten offset (take count piece))))
+
+-- `write`
+abbrev pub Write : Server → List ℕ → ℕ → List ℕ → Result ℕ SrvErr → Server → Type 0
+Write old h offset piece r new = Called (λ t. Outcome (Wrote t h offset piece) (WriteErr old.limits h offset (length piece) t) t) old r new
+
+-- the errors of a call that gives a file a size
+abbrev pub SetSizeErr : ServerLimits → List ℕ → ℕ → Tree → SrvErr → Type 0
+SetSizeErr limits h size t Full = IsSomeAnd (bytes_at t h) (λ b. NoRoom limits t 0 (length b) size)
+SetSizeErr limits h size t e = ContentErr bytes_in h t e
+
+-- `set_size`: the file is cut, or filled with zeros
+abbrev pub SetSize : Server → List ℕ → ℕ → Result Unit SrvErr → Server → Type 0
+SetSize old h size r new = Called (λ t. Outcome (λ _ after. after ≡ Some (edited t h (with_bytes (resized size)))) (SetSizeErr old.limits h size t) t) old r new
+
 -- NAMES
 
 -- the errors of a call on a directory
@@ -49,6 +93,16 @@ LookupErr dir name t e = DirErr dir t e
 -- `lookup`
 abbrev pub Lookup : Server → List ℕ → List ℕ → Result (List ℕ) SrvErr → Server → Type 0
 Lookup old dir name r new = Called (λ t. Outcome (λ h after. (target t dir name ≡ Some h) × (after ≡ Some t)) (LookupErr dir name t) t) old r new
+
+-- each name of the directory stands in the list once, in any order
+pub record Lists (rows : List Listed) (names : Names) : Type 0 where
+  pub sound : (k : ℕ) (row : Listed) → slice_get rows k ≡ Some row → get names row.name ≡ Some row.handle
+  pub complete : (name h : List ℕ) → get names name ≡ Some h → (k : ℕ) × (slice_get rows k ≡ Some (record { name = name; handle = h }))
+  pub once : (j k : ℕ) (a b : Listed) → slice_get rows j ≡ Some a → slice_get rows k ≡ Some b → a.name ≡ b.name → j ≡ k
+
+-- `list`
+abbrev pub ListNames : Server → List ℕ → Result (Vec Listed Global) SrvErr → Server → Type 0
+ListNames old dir r new = Called (λ t. Outcome (λ rows after. IsSomeAnd (names_at t dir) (Lists rows.items) × (after ≡ Some t)) (DirErr dir t) t) old r new
 
 -- NEW NAMES
 
@@ -73,9 +127,17 @@ pub record Made (t : Tree) (dir name : List ℕ) (content : Content) (h : List �
 abbrev pub Make : Content → ℕ → Server → List ℕ → List ℕ → Result (List ℕ) SrvErr → Server → Type 0
 Make content bytes old dir name r new = Called (λ t. Outcome (Made t dir name content) (MakeErr old.limits dir name bytes t) t) old r new
 
+-- `create`: a file without bytes
+abbrev pub Create : Server → List ℕ → List ℕ → Result (List ℕ) SrvErr → Server → Type 0
+Create old dir name r new = Make (BytesOf []) 0 old dir name r new
+
 -- `mkdir`: a directory without names
 abbrev pub Mkdir : Server → List ℕ → List ℕ → Result (List ℕ) SrvErr → Server → Type 0
 Mkdir old dir name r new = Make (NamesOf empty) 0 old dir name r new
+
+-- `symlink`: a link with its text
+abbrev pub Symlink : Server → List ℕ → List ℕ → List ℕ → Result (List ℕ) SrvErr → Server → Type 0
+Symlink old dir name text r new = Make (TextOf text) (length text) old dir name r new
 
 -- THE WHOLE SERVER
 

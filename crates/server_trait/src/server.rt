@@ -4,7 +4,7 @@ ghost use Rattle.std.specs.Prelude.{◌≡◌, ◌≤◌, ◌+◌, true, length}
 ghost use Rattle.nfs2_types.specs.Names.{is_name};
 ghost use Rattle.server_trait.specs.Tree.{Server};
 ghost use Rattle.server_trait.specs.Step.{HasTree};
-ghost use Rattle.server_trait.specs.Calls.{RootIs, Attr, Lookup, SetAttr, Mkdir, Wipe};
+ghost use Rattle.server_trait.specs.Calls.{RootIs, Attr, SetAttr, Read, ReadLink, Write, SetSize, Lookup, ListNames, Create, Mkdir, Symlink, Wipe};
 
 use nfs2_types::{Blob, Handle, Kind, Time};
 use std::alloc::Global;
@@ -29,6 +29,13 @@ pub struct NodeAttr {
     pub size: u32,
     pub links: u32,
     pub time: Time,
+}
+
+/// A name of a directory, and the handle to which it leads.
+#[derive(Debug, Drop)]
+pub struct Listed {
+    pub name: Blob,
+    pub handle: Handle,
 }
 
 /// Why a server does not do a call. Where several of the first nine apply, any of them may be answered.
@@ -78,22 +85,64 @@ pub trait FileServer: Drop {
         requires { HasTree (state self.old) }
         ensures { Attr (state self.old) node.now result (state self.new) };
 
+    /// Sets the mode and the owners of a node. Errors: Stale.
+    fn set_attr(&mut self, node: &Handle, mode: u32, uid: u32, gid: u32) -> Result<(), SrvErr>
+        requires { HasTree (state self.old) }
+        ensures { SetAttr (state self.old) node.now mode uid gid result (state self.new) };
+
+    /// The bytes of a file from an offset up to the count or the end. Errors: Stale, WrongKind.
+    fn read(&mut self, file: &Handle, offset: u32, count: u32) -> Result<Vec<u8>, SrvErr>
+        requires { HasTree (state self.old) }
+        ensures { Read (state self.old) file.now offset count result (state self.new) };
+
+    /// The text of a link. Errors: Stale, WrongKind.
+    fn read_link(&mut self, link: &Handle) -> Result<Vec<u8>, SrvErr>
+        requires { HasTree (state self.old) }
+        ensures { ReadLink (state self.old) link.now result (state self.new) };
+
+    /// Puts bytes from the front of a piece, at least one, at an offset of a file, and answers how many. A gap before the
+    /// offset is zeros. Errors: Stale, WrongKind, Refused where the offset lies past the end, and Full.
+    fn write(&mut self, file: &Handle, offset: u32, piece: &[u8]) -> Result<u32, SrvErr>
+        requires tree { HasTree (state self.old) }
+        requires some { 1 ≤ length piece.now }
+        requires end { offset + length piece.now ≤ 8388608 }
+        ensures { Write (state self.old) file.now offset piece.now result (state self.new) };
+
+    /// Cuts a file, or fills it with zeros. Errors: Stale, WrongKind, Full.
+    fn set_size(&mut self, file: &Handle, size: u32) -> Result<(), SrvErr>
+        requires tree { HasTree (state self.old) }
+        requires end { size ≤ 8388608 }
+        ensures { SetSize (state self.old) file.now size result (state self.new) };
+
     /// The handle to which a name leads. Errors: Stale, NotDir, NoEnt.
     fn lookup(&mut self, dir: &Handle, name: &[u8]) -> Result<Handle, SrvErr>
         requires tree { HasTree (state self.old) }
         requires name { is_name name.now ≡ true }
         ensures { Lookup (state self.old) dir.now name.now result (state self.new) };
 
-    /// Sets the mode and the owners of a node. Errors: Stale.
-    fn set_attr(&mut self, node: &Handle, mode: u32, uid: u32, gid: u32) -> Result<(), SrvErr>
+    /// The names of a directory, each once, in any order. Errors: Stale, NotDir.
+    fn list(&mut self, dir: &Handle) -> Result<Vec<Listed>, SrvErr>
         requires { HasTree (state self.old) }
-        ensures { SetAttr (state self.old) node.now mode uid gid result (state self.new) };
+        ensures { ListNames (state self.old) dir.now result (state self.new) };
+
+    /// Makes a file without bytes, of mode, uid and gid 0. Errors: Stale, NotDir, Exists, Full.
+    fn create(&mut self, dir: &Handle, name: &[u8]) -> Result<Handle, SrvErr>
+        requires tree { HasTree (state self.old) }
+        requires name { is_name name.now ≡ true }
+        ensures { Create (state self.old) dir.now name.now result (state self.new) };
 
     /// Makes a directory of mode, uid and gid 0. Errors: Stale, NotDir, Exists, Full.
     fn mkdir(&mut self, dir: &Handle, name: &[u8]) -> Result<Handle, SrvErr>
         requires tree { HasTree (state self.old) }
         requires name { is_name name.now ≡ true }
         ensures { Mkdir (state self.old) dir.now name.now result (state self.new) };
+
+    /// Makes a link with a text, of mode, uid and gid 0. Errors: Stale, NotDir, Exists, Full.
+    fn symlink(&mut self, dir: &Handle, name: &[u8], text: &[u8]) -> Result<Handle, SrvErr>
+        requires tree { HasTree (state self.old) }
+        requires name { is_name name.now ≡ true }
+        requires text { length text.now ≤ 1024 }
+        ensures { Symlink (state self.old) dir.now name.now text.now result (state self.new) };
 
     /// Makes an empty root, whatever was there. It works in any state.
     fn wipe(&mut self) -> Result<(), SrvErr>
@@ -119,16 +168,44 @@ impl FileServer for Srv {
         (**self).attr(node)
     }
 
-    fn lookup(&mut self, dir: &Handle, name: &[u8]) -> Result<Handle, SrvErr> {
-        (**self).lookup(dir, name)
-    }
-
     fn set_attr(&mut self, node: &Handle, mode: u32, uid: u32, gid: u32) -> Result<(), SrvErr> {
         (**self).set_attr(node, mode, uid, gid)
     }
 
+    fn read(&mut self, file: &Handle, offset: u32, count: u32) -> Result<Vec<u8>, SrvErr> {
+        (**self).read(file, offset, count)
+    }
+
+    fn read_link(&mut self, link: &Handle) -> Result<Vec<u8>, SrvErr> {
+        (**self).read_link(link)
+    }
+
+    fn write(&mut self, file: &Handle, offset: u32, piece: &[u8]) -> Result<u32, SrvErr> {
+        (**self).write(file, offset, piece)
+    }
+
+    fn set_size(&mut self, file: &Handle, size: u32) -> Result<(), SrvErr> {
+        (**self).set_size(file, size)
+    }
+
+    fn lookup(&mut self, dir: &Handle, name: &[u8]) -> Result<Handle, SrvErr> {
+        (**self).lookup(dir, name)
+    }
+
+    fn list(&mut self, dir: &Handle) -> Result<Vec<Listed>, SrvErr> {
+        (**self).list(dir)
+    }
+
+    fn create(&mut self, dir: &Handle, name: &[u8]) -> Result<Handle, SrvErr> {
+        (**self).create(dir, name)
+    }
+
     fn mkdir(&mut self, dir: &Handle, name: &[u8]) -> Result<Handle, SrvErr> {
         (**self).mkdir(dir, name)
+    }
+
+    fn symlink(&mut self, dir: &Handle, name: &[u8], text: &[u8]) -> Result<Handle, SrvErr> {
+        (**self).symlink(dir, name, text)
     }
 
     fn wipe(&mut self) -> Result<(), SrvErr> {
