@@ -28,29 +28,6 @@ use Rattle.conf_map.proofs.LiveRows.{at_handle, same_content}
 use Rattle.conf_map.proofs.Seen.{live_agrees, located_live}
 use Rattle.conf_map.proofs.Targets.{dir_map, row_of_target, no_row_of_target}
 
--- KINDS
-
-kind_content : (rows : List ConfEntry) (g : ℕ) (o : Object) (c : Content) → SameContent rows o c → is_dir_kind (kind_of c) ≡ is_dir (record { generation = g; object = o })
-kind_content rows g Null c k = absurd k
-kind_content rows g (File a b) c k = ap (λ c. is_dir_kind (kind_of c)) k
-kind_content rows g (Link a b) c k = ap (λ c. is_dir_kind (kind_of c)) k
-kind_content rows g (Dir a names) c k = let m = some_and (names_in c) (SameNames rows names) k in kind_names c m.0 m.1
-  where
-    kind_names : (c : Content) (m : Names) → names_in c ≡ Some m → is_dir_kind (kind_of c) ≡ true
-    kind_names (BytesOf b) m is = absurd (some_none is refl)
-    kind_names (TextOf b) m is = absurd (some_none is refl)
-    kind_names (NamesOf k) m is = refl
-
--- a node's kind is that of a directory where its entry is one
-pub kind_agrees : (s : Option Tree) (table : ConfTable) (A : List Entry) → StandValid s table A → (i : ℕ) (h : List ℕ) (a : NodeAttr) → handle_at table.rows.items i ≡ Some h →
-    ((t : Tree) → s ≡ Some t → IsSomeAnd (node_at t h) (IsAttr t h a)) → is_dir_kind a.kind ≡ is_dir (entry_at A i)
-kind_agrees s table A k i h a is told =
-    let e = at_handle s table A k.stands i h is in
-    let n = some_and (node_at k.stands.tree h) (IsAttr k.stands.tree h a) (told k.stands.tree k.stands.has_tree) in
-    ap is_dir_kind (n.2.kind ∙ ap (λ (n : Node). kind_of n.content) (some_same n.1 e.3.is_node))
-    ∙ kind_content table.rows.items e.2.generation e.2.object e.1.content (same_content s table A k.stands i h e.0 e.1 e.2 e.3)
-    ∙ sym (ap is_dir (entry_at-some A i e.2 e.3.is_entry))
-
 -- THE DIRECTORY OF A CALL
 
 -- the first refusal of a call on a name, by what its handle names

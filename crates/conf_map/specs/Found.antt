@@ -1,5 +1,5 @@
 -- What a procedure finds on its way, said of the array (RFC 1094, 2.2).
-use Rattle.std.specs.Prelude.{◌≡◌, ℕ, ◌*◌, if◌then◌else◌, List, Bool, true, false, Option, Some, None, Result, Ok, Err}
+use Rattle.std.specs.Prelude.{◌≡◌, ℕ, ◌*◌, if◌then◌else◌, length, List, Bool, true, false, Option, Some, None, Result, Ok, Err}
 use Rattle.nfs2_types.specs.declared.fattr.Kind.{Kind}
 use Rattle.nfs2_types.specs.declared.fattr.Kind.TheVariants.{File, Dir, Link}
 use Rattle.nfs2_types.specs.declared.Stat.{Stat}
@@ -7,17 +7,37 @@ use Rattle.nfs2_types.specs.Names.{is_bad}
 use Rattle.server_trait.specs.declared.server.NodeAttr.{NodeAttr}
 use Rattle.server_trait.specs.declared.bench.ConfEntry.{ConfEntry}
 use Rattle.abs_model.specs.declared.entry.Entry.{Entry}
-use Rattle.abs_model.specs.Objects.{is_dir}
+use Rattle.abs_model.specs.Objects.{is_file, is_dir, is_link, attr_of, bytes_of}
 use Rattle.abs_model.specs.Array.{entry_at, live, target, has_name}
 use Rattle.abs_model.specs.Machine.{first_of, in_dir}
 use Rattle.conf_map.specs.declared.table.Located.{Located}
 use Rattle.conf_map.specs.Tables.{IsLive}
 
--- a node of this kind is a directory
+-- a node of this kind is a file, a directory, a link
+abbrev pub is_file_kind : Kind → Bool
+is_file_kind File = true
+is_file_kind Dir = false
+is_file_kind Link = false
+
 abbrev pub is_dir_kind : Kind → Bool
 is_dir_kind File = false
 is_dir_kind Dir = true
 is_dir_kind Link = false
+
+abbrev pub is_link_kind : Kind → Bool
+is_link_kind File = false
+is_link_kind Dir = false
+is_link_kind Link = true
+
+-- what a server tells of an object: its kind, its mode and owners, and how many bytes a file or a link's text has
+pub record IsSeen (e : Entry) (a : NodeAttr) : Type 0 where
+  pub file : is_file_kind a.kind ≡ is_file e
+  pub dir : is_dir_kind a.kind ≡ is_dir e
+  pub link : is_link_kind a.kind ≡ is_link e
+  pub mode : a.mode ≡ (attr_of e).mode
+  pub uid : a.uid ≡ (attr_of e).uid
+  pub gid : a.gid ≡ (attr_of e).gid
+  pub size : is_dir e ≡ false → a.size ≡ length (bytes_of e)
 
 -- the bytes that a node uses by its attributes
 abbrev pub bytes_used : NodeAttr → ℕ

@@ -10,7 +10,8 @@ ghost use Rattle.conf_map.specs.Notice.{Watched};
 ghost use Rattle.conf_map.specs.Stands.{StandValid};
 ghost use Rattle.conf_map.specs.Tables.{IsLive};
 
-use crate::ask::{attr_of, find};
+use crate::ask::find;
+use crate::object::object_at;
 use crate::table::{Located, index_of, locate};
 use nfs2_types::{Handle, Kind, Stat, is_bad, stat};
 use server_trait::{ConfTable, NodeAttr, Srv, WrapErr};
@@ -34,9 +35,8 @@ pub fn is_dir(server: &mut Srv, table: &ConfTable, at: &Located) -> Result<bool,
     ensures same { OnOk result ((state server.new).tree ≡ (state server.old).tree) }
     ensures watched { Watched (state server.old) (state server.new) result }
 {
-    let attr = attr_of(server, &at.handle)?;
-    let is_dir = is_dir_attr(&attr);
-    Ok(is_dir)
+    let attr = object_at(server, table, at)?;
+    Ok(is_dir_attr(&attr))
 }
 
 /// The directory of a call on a name in it, or the status of the first refusal: STALE, NOTDIR, ACCES.

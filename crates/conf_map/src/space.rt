@@ -3,13 +3,14 @@
 ghost use Rattle.std.specs.Prelude.{◌≡◌, ◌<◌, ◌≤◌, List, length, IfOk, OnOk};
 ghost use Rattle.abs_model.specs.declared.entry.Entry.{Entry};
 ghost use Rattle.abs_model.specs.Array as array;
+ghost use Rattle.abs_model.specs.Machine as machine;
 ghost use Rattle.abs_model.specs.Objects as objects;
 ghost use Rattle.conf_map.specs.Found.{bytes_used};
 ghost use Rattle.conf_map.specs.Notice.{Watched};
-ghost use Rattle.conf_map.specs.Stands.{StandValid};
+ghost use Rattle.conf_map.specs.Stands.{StandValid, StandsValid, AreWithin};
 
 use crate::ask::attr_of;
-use nfs2_types::Kind;
+use nfs2_types::{Kind, Limits};
 use server_trait::{ConfTable, NodeAttr, Srv, WrapErr};
 
 /// The bytes that a node uses: 512 for each name of a directory, else those of a file or of a link's text.
@@ -57,4 +58,28 @@ pub fn used(server: &mut Srv, table: &ConfTable) -> Result<u64, WrapErr>
         }
     }
     Ok(sum)
+}
+
+/// Whether more than T bytes would be used after `goes` bytes go and `comes` come. Where no more come than go it asks
+/// the server nothing.
+pub fn no_room(
+    server: &mut Srv,
+    table: &ConfTable,
+    limits: &Limits,
+    goes: u32,
+    comes: u32,
+) -> Result<bool, WrapErr>
+    requires stands { (A : List Entry) × StandsValid limits.now (state server.old).tree table.now A }
+    requires within { AreWithin limits.now }
+    ensures full { IfOk result (λ b. (A : List Entry) →
+        StandsValid limits.now (state server.old).tree table.now A → b ≡ machine.no_room A limits.now goes comes) }
+    ensures same { OnOk result ((state server.new).tree ≡ (state server.old).tree) }
+    ensures watched { Watched (state server.old) (state server.new) result }
+{
+    if comes <= goes {
+        return Ok(false);
+    }
+    let bytes = used(server, table)?;
+    let after = (bytes + u64::from(comes)).saturating_sub(u64::from(goes));
+    Ok(after > u64::from(limits.t))
 }

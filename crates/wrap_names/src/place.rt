@@ -2,12 +2,11 @@
 
 ghost use Rattle.std.specs.Prelude.{◌≡◌, ℕ, List, Result, Ok, Err, true, nat_le, length, IfOk, OnOk};
 ghost use Rattle.abs_model.specs.declared.entry.Entry.{Entry};
-ghost use Rattle.abs_model.specs.Machine.{no_room};
 ghost use Rattle.conf_map.specs.Notice.{Watched};
 ghost use Rattle.conf_map.specs.Stands.{StandsValid, AreWithin};
 ghost use Rattle.wrap_names.specs.Places.{IndexFound, PlaceFound};
 
-use conf_map::{Located, follow, in_dir, lowest_null, used};
+use conf_map::{Located, follow, in_dir, lowest_null, no_room};
 use nfs2_types::{Handle, Limits, Stat, is_dot, stat};
 use server_trait::{ConfTable, FileServer, Srv, WrapErr};
 
@@ -16,21 +15,6 @@ use server_trait::{ConfTable, FileServer, Srv, WrapErr};
 pub struct Place {
     pub dir: Located,
     pub index: u32,
-}
-
-/// Whether one name more would pass the limit of bytes.
-fn is_full(server: &mut Srv, table: &ConfTable, limits: &Limits) -> Result<bool, WrapErr>
-    requires stands { (A : List Entry)
-        × StandsValid limits.now (state server.old).tree table.now A }
-    requires within { AreWithin limits.now }
-    ensures full { IfOk result (λ b. (A : List Entry) →
-        StandsValid limits.now (state server.old).tree table.now A →
-        b ≡ no_room A limits.now 0 512) }
-    ensures same { OnOk result ((state server.new).tree ≡ (state server.old).tree) }
-    ensures watched { Watched (state server.old) (state server.new) result }
-{
-    let bytes = used(server, table)?;
-    Ok(bytes + 512 > limits.t as u64)
 }
 
 /// The index of a new object, or `None` where no index is free or the bytes would pass their limit.
@@ -46,7 +30,7 @@ fn new_index(server: &mut Srv, table: &ConfTable, limits: &Limits) -> Result<Opt
     let Some(index) = lowest_null(table) else {
         return Ok(None);
     };
-    if is_full(server, table, limits)? {
+    if no_room(server, table, limits, 0, 512)? {
         return Ok(None);
     }
     Ok(Some(index))

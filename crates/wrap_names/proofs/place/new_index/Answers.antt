@@ -7,8 +7,8 @@ returns-in_default-clause-found g c A k = no_index c.args.limits.now _ c.args.ta
 
 pub returns-then-branch-clause-found : goal.returns-then-branch-clause-found
 returns-then-branch-clause-found g c A k = no_space c.args.limits.now _ c.args.table.now A k c.in-Some.index c.in-Some.ensures
-    (sym (c.in_ok-is_full.ensures.full A k) ∙ c.if-branch.true)
+    (sym (c.in_ok-no_room.ensures.full A k) ∙ c.if-branch.true)
 
 pub returns-clause-found : goal.returns-clause-found
 returns-clause-found g c A k = has_index c.args.limits.now _ c.args.table.now A k c.in-Some.index c.in-Some.ensures
-    (sym (c.in_ok-is_full.ensures.full A k) ∙ c.if-branch.false)
+    (sym (c.in_ok-no_room.ensures.full A k) ∙ c.if-branch.false)
