@@ -5,7 +5,7 @@ ghost use Rattle.std.specs.FinMap.{empty};
 ghost use Rattle.nfs2_types.specs.Counts.{Rose};
 
 use nfs2_types::Handle;
-use server_trait::{FileServer, NodeAttr, ServerLimits, SrvErr};
+use server_trait::{FileServer, Listed, NodeAttr, ServerLimits, SrvErr};
 
 /// A server that fails at each call.
 #[derive(Drop)]
@@ -57,17 +57,52 @@ impl FileServer for Broken {
         Err(SrvErr::Fault)
     }
 
-    fn lookup(&mut self, _dir: &Handle, _name: &[u8]) -> Result<Handle, SrvErr> {
-        self.fail();
-        Err(SrvErr::Fault)
-    }
-
     fn set_attr(&mut self, _node: &Handle, _mode: u32, _uid: u32, _gid: u32) -> Result<(), SrvErr> {
         self.fail();
         Err(SrvErr::Fault)
     }
 
+    fn read(&mut self, _file: &Handle, _offset: u32, _count: u32) -> Result<Vec<u8>, SrvErr> {
+        self.fail();
+        Err(SrvErr::Fault)
+    }
+
+    fn read_link(&mut self, _link: &Handle) -> Result<Vec<u8>, SrvErr> {
+        self.fail();
+        Err(SrvErr::Fault)
+    }
+
+    fn write(&mut self, _file: &Handle, _offset: u32, _piece: &[u8]) -> Result<u32, SrvErr> {
+        self.fail();
+        Err(SrvErr::Fault)
+    }
+
+    fn set_size(&mut self, _file: &Handle, _size: u32) -> Result<(), SrvErr> {
+        self.fail();
+        Err(SrvErr::Fault)
+    }
+
+    fn lookup(&mut self, _dir: &Handle, _name: &[u8]) -> Result<Handle, SrvErr> {
+        self.fail();
+        Err(SrvErr::Fault)
+    }
+
+    fn list(&mut self, _dir: &Handle) -> Result<Vec<Listed>, SrvErr> {
+        self.fail();
+        Err(SrvErr::Fault)
+    }
+
+    fn create(&mut self, _dir: &Handle, _name: &[u8]) -> Result<Handle, SrvErr> {
+        self.fail();
+        Err(SrvErr::Fault)
+    }
+
     fn mkdir(&mut self, _dir: &Handle, _name: &[u8]) -> Result<Handle, SrvErr> {
+        self.fail();
+        Err(SrvErr::Fault)
+    }
+
+    fn symlink(&mut self, _dir: &Handle, _name: &[u8], _text: &[u8]) -> Result<Handle, SrvErr> {
         self.fail();
         Err(SrvErr::Fault)
     }
