@@ -1,7 +1,7 @@
 //! The list of a directory.
 
 ghost use Rattle.std.specs.Prelude.{◌≡◌, ◌<◌, ◌≤◌, ◌^◌, ◌+◌, ◌-◌, length, take, drop, IfOk};
-ghost use Rattle.abs_model.specs.Listed.{room_of, fitting, listing, listed};
+ghost use Rattle.abs_model.specs.Listed.{dots, room_of, fitting, listing, page, listed};
 ghost use Rattle.abs_queries.specs.Listable.{CanList};
 
 use crate::look::{names_at, parent};
@@ -34,22 +34,32 @@ fn fitting(room: u128, entries: &[ListEntry]) -> usize
     entries.len()
 }
 
+/// The entries "." and ".." of a directory and its parent.
+pub fn dots(alloc: Global, d: u32, parent: u32) -> Result<Vec<ListEntry>, AllocError>
+    requires dir { d + 1 < 2 ^ 32 }
+    requires parent { parent + 1 < 2 ^ 32 }
+    ensures { IfOk result (λ v. v.items ≡ dots d parent) }
+{
+    let mut out = Vec::new(alloc);
+    out.push(ListEntry {
+        fileid: d + 1,
+        name: Blob::new(Vec::from_slice(alloc, b".")?),
+        cookie: 1,
+    })?;
+    out.push(ListEntry {
+        fileid: parent + 1,
+        name: Blob::new(Vec::from_slice(alloc, b"..")?),
+        cookie: 2,
+    })?;
+    Ok(out)
+}
+
 /// All entries of a directory.
 fn listing(alloc: Global, entries: &[Entry], d: usize) -> Result<Vec<ListEntry>, AllocError>
     requires { CanList entries.now d }
     ensures { IfOk result (λ v. v.items ≡ listing entries.now d) }
 {
-    let mut out = Vec::new(alloc);
-    out.push(ListEntry {
-        fileid: d as u32 + 1,
-        name: Blob::new(Vec::from_slice(alloc, b".")?),
-        cookie: 1,
-    })?;
-    out.push(ListEntry {
-        fileid: parent(entries, d) as u32 + 1,
-        name: Blob::new(Vec::from_slice(alloc, b"..")?),
-        cookie: 2,
-    })?;
+    let mut out = dots(alloc, d as u32, parent(entries, d) as u32)?;
     let rows = names_at(entries, d);
     for (i, r) in rows.iter().enumerate() {
         out.push(ListEntry {
@@ -86,7 +96,26 @@ fn copied(alloc: Global, entries: &[ListEntry]) -> Result<Vec<ListEntry>, AllocE
     Ok(out)
 }
 
-/// The answer to a cookie and a count.
+/// The part of a list that answers a cookie and a count.
+pub fn page(
+    alloc: Global,
+    entries: &[ListEntry],
+    cookie: u32,
+    count: u32,
+) -> Result<NfsResult, AllocError>
+    ensures { IfOk result (λ r. r ≡ page entries.now cookie count) }
+{
+    let rest = behind(entries, cookie as usize);
+    let room = count.min(8192).saturating_sub(8);
+    let n = fitting(u128::from(room), rest);
+    let given = copied(alloc, &rest[..n])?;
+    Ok(NfsResult::Entries {
+        entries: Listing::new(given),
+        eof: n == rest.len(),
+    })
+}
+
+/// The answer of a directory to a cookie and a count.
 pub fn listed(
     alloc: Global,
     entries: &[Entry],
@@ -98,12 +127,5 @@ pub fn listed(
     ensures { IfOk result (λ r. r ≡ listed entries.now d cookie count) }
 {
     let all = listing(alloc, entries, d)?;
-    let rest = behind(all.as_slice(), cookie as usize);
-    let room = count.min(8192).saturating_sub(8);
-    let n = fitting(u128::from(room), rest);
-    let given = copied(alloc, &rest[..n])?;
-    Ok(NfsResult::Entries {
-        entries: Listing::new(given),
-        eof: n == rest.len(),
-    })
+    page(alloc, all.as_slice(), cookie, count)
 }
