@@ -1,3 +1,5 @@
+pub mod ListedRows
+pub mod NameOrder
 pub mod ReadAnswers
 pub mod ReadCalls
 pub mod StepLemmas
