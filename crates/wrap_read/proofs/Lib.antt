@@ -1,3 +1,4 @@
+pub mod ListAnswers
 pub mod ListedRows
 pub mod NameOrder
 pub mod ReadAnswers

@@ -38,11 +38,11 @@ pub record IsRowOf (table : ConfTable) (rows : List NameRow) (l : Listed) (row :
   pub is_row : row_of l.name rows ≡ Some row
   pub index : index_in table l.handle ≡ Some row.index
 
-no_row : NameRow
+abbrev no_row : NameRow
 no_row = record { name = []; index = 0; generation = 0 }
 
 -- the row of a listed name
-found : List NameRow → Listed → NameRow
+abbrev found : List NameRow → Listed → NameRow
 found rows l = unwrap_or (row_of l.name rows) no_row
 
 module _ (table : ConfTable) (rows : List NameRow) where
@@ -55,7 +55,7 @@ module _ (table : ConfTable) (rows : List NameRow) where
   found_fileid : (l : Listed) (row : NameRow) → IsRowOf table rows l row → fileid_of table l ≡ (found rows l).index + 1
   found_fileid l row is = ap (λ o. unwrap_or o 0 + 1) is.index ∙ ap (λ (r : NameRow). r.index + 1) (sym (found_is l row is))
 
-  AllRows : List Listed → Type 0
+  abbrev AllRows : List Listed → Type 0
   AllRows ys = (k : ℕ) (l : Listed) → slice_get ys k ≡ Some l → (row : NameRow) × IsRowOf table rows l row
 
   found_names : (ys : List Listed) → AllRows ys → map (λ (r : NameRow). r.name) (map (found rows) ys) ≡ map (λ (l : Listed). l.name) ys

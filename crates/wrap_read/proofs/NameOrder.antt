@@ -74,7 +74,7 @@ module _ (xs : List Listed) (m : Names) (lists : Lists xs m) where
       let below_i : i < length xs = omega (arith, below_j, before) in
       other_name _ _ (λ e. absurd (
         let same : i ≡ j = lists.once i j (get_or xs i no_name) (get_or xs j no_name) (slice_get-get_or xs i no_name below_i) (slice_get-get_or xs j no_name below_j)
-            (sym (get_or-map (λ (l : Listed). l.name) xs i d no_name below_i) ∙ e ∙ get_or-map (λ (l : Listed). l.name) xs j d no_name below_j) in
+            (sym (get_or-map (λ (l : Listed). l.name) xs i no_name d below_i) ∙ e ∙ get_or-map (λ (l : Listed). l.name) xs j no_name d below_j) in
         omega (arith, same, before))))
 
   module _ (ys : List Listed) (order : AreInOrder xs ys) where
@@ -104,7 +104,7 @@ module _ (xs : List Listed) (m : Names) (lists : Lists xs m) where
           let next : k + 1 < length ys = omega (arith, below, size) in
           let here : k < length ys = omega (arith, next) in
           less (get_or names k []) (get_or names (k + 1) [])
-            (ap (λ n. is_lt (slice_cmp nat_cmp n (get_or names k []))) (get_or-map (λ (l : Listed). l.name) ys (k + 1) [] no_name next)
-              ∙ ap (λ n. is_lt (slice_cmp nat_cmp (get_or ys (k + 1) no_name).name n)) (get_or-map (λ (l : Listed). l.name) ys k [] no_name here)
+            (ap (λ n. is_lt (slice_cmp nat_cmp n (get_or names k []))) (get_or-map (λ (l : Listed). l.name) ys (k + 1) no_name [] next)
+              ∙ ap (λ n. is_lt (slice_cmp nat_cmp (get_or ys (k + 1) no_name).name n)) (get_or-map (λ (l : Listed). l.name) ys k no_name [] here)
               ∙ order.sorted k no_name (omega arith) next)
             (apart_from_distinct bytes_eq names k (k + 1) [] apart (omega arith) below))
