@@ -1,5 +1,5 @@
 -- What a directory's list is by its server and its table, and what the machine answers to READDIR.
-use Rattle.std.proofs.Common.{◌≡◌, ℕ, ◌+◌, ◌<◌, ◌≤◌, ◌^◌, arith, true, false, List, [], length, get_or, Option, Some, None, refl, sym, ap, ◌∙◌}
+use Rattle.std.proofs.Common.{◌≡◌, ℕ, ◌+◌, ◌<◌, ◌^◌, arith, true, false, List, length, get_or, Option, Some, None, refl, sym, ap, ◌∙◌}
 use Rattle.std.specs.Prelude.{not, if◌then◌else◌, is_none, unwrap_or}
 use Rattle.std.specs.Option.{option_map}
 use Rattle.nfs2_types.specs.declared.Cred.{Cred}
@@ -12,14 +12,13 @@ use Rattle.nfs2_types.specs.declared.Time.{Time}
 use Rattle.nfs2_types.specs.declared.stat.TheConstants.{NOTDIR, STALE}
 use Rattle.nfs2_types.specs.Call.{read_dir}
 use Rattle.server_trait.specs.Tree.{Tree}
-use Rattle.server_trait.specs.declared.server.Listed.{Listed}
 use Rattle.server_trait.specs.declared.bench.ConfEntry.{ConfEntry}
 use Rattle.server_trait.specs.declared.bench.ConfTable.{ConfTable}
 use Rattle.abs_model.specs.declared.entry.Entry.{Entry}
 use Rattle.abs_model.specs.Objects.{is_dir}
 use Rattle.abs_model.specs.Array.{entry_at, parent, live, at}
 use Rattle.abs_model.specs.Listed.{page, listing, listed}
-use Rattle.abs_model.specs.Machine.{first_of, refusals, array_after, result_of}
+use Rattle.abs_model.specs.Machine.{first_of, refusals, result_of}
 use Rattle.conf_map.specs.declared.table.Located.{Located}
 use Rattle.conf_map.specs.Stands.{StandValid}
 use Rattle.conf_map.specs.Tables.{located, index_in, IsLive}

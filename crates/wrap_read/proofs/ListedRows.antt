@@ -1,8 +1,7 @@
 -- The names that a server lists of a live directory, in their order, are the rows of the directory's entry.
-use Rattle.std.proofs.Common.{◌≡◌, ℕ, zero, suc, ◌+◌, ◌<◌, ◌≤◌, arith, true, false, Bool, List, [], ◌∷◌, length, map, slice_get, Option, Some, None, IsSomeAnd, refl, sym, ap, ◌∙◌, subst}
+use Rattle.std.proofs.Common.{◌≡◌, ℕ, suc, ◌+◌, ◌≤◌, arith, true, List, [], ◌∷◌, length, map, slice_get, Option, Some, None, IsSomeAnd, refl, sym, ap, ◌∙◌, subst}
 use Rattle.std.specs.Prelude.{unwrap_or, option_map}
 use Rattle.std.specs.List.Sorted.{IsStrictlySortedBy}
-use Rattle.std.specs.Option.{option_and_then}
 use Rattle.std.specs.Ordering.{nat_cmp}
 use Rattle.std.specs.Cmp.Lexicographic.{slice_cmp}
 use Rattle.std.specs.FinMap.{get}
@@ -10,7 +9,7 @@ use Rattle.std.proofs.lemmas.Option.{slice_get-map}
 use Rattle.std.proofs.lemmas.List.{length-map}
 use Rattle.server_trait.specs.Tree.{Tree, Node, Names, names_at, target}
 use Rattle.server_trait.specs.Calls.{Lists}
-use Rattle.server_trait.proofs.TreeLaws.{some_and, some_none, some_same, and_then}
+use Rattle.server_trait.proofs.TreeLaws.{some_and, some_none, and_then}
 use Rattle.server_trait.specs.declared.server.Listed.{Listed}
 use Rattle.server_trait.specs.declared.bench.ConfEntry.{ConfEntry}
 use Rattle.server_trait.specs.declared.bench.ConfTable.{ConfTable}

@@ -1,12 +1,12 @@
 -- Names that are listed once and put in order: what holds of a list holds of it in another order, and its names rise.
-use Rattle.std.proofs.Common.{◌≡◌, ◌≢◌, ℕ, zero, suc, ◌+◌, ◌<◌, arith, true, false, Bool, List, [], ◌∷◌, length, map, get_or, slice_get, Some, refl, sym, ap, ◌∙◌, subst, Ordering}
-use Rattle.std.specs.Prelude.{◌&&◌, bytes_eq, All, Contains}
+use Rattle.std.proofs.Common.{◌≡◌, ◌≢◌, ℕ, ◌+◌, ◌<◌, arith, true, false, Bool, List, [], ◌∷◌, length, map, get_or, slice_get, Some, refl, sym, ap, ◌∙◌, subst, Ordering}
+use Rattle.std.specs.Prelude.{bytes_eq}
 use Rattle.std.specs.List.{list_all, AllByRecursion, IsDistinct}
-use Rattle.std.specs.List.Sorted.{IsPermutation, IsSortedByKey, IsStrictlySortedBy}
+use Rattle.std.specs.List.Sorted.{IsStrictlySortedBy}
 use Rattle.std.specs.Ordering.{nat_cmp, is_lt, is_eq, ordering_reverse}
 use Rattle.std.specs.declared.cmp.Ordering.TheVariants.{Less, Equal, Greater}
 use Rattle.std.specs.Cmp.Lexicographic.{slice_cmp}
-use Rattle.std.proofs.lemmas.Bool.{and_from, false≢true, true≢false}
+use Rattle.std.proofs.lemmas.Bool.{and_from, true≢false}
 use Rattle.std.proofs.lemmas.Cmp.{nat_list_cmp_total}
 use Rattle.std.proofs.lemmas.List.{get_or-map, length-map}
 use Rattle.std.proofs.lemmas.List.Sorted.{All-permutation, Contains-permutation, IsPermutation-map}
@@ -73,9 +73,9 @@ module _ (xs : List Listed) (m : Names) (lists : Lists xs m) where
       let below_j : j < length xs = omega (arith, below, size) in
       let below_i : i < length xs = omega (arith, below_j, before) in
       other_name _ _ (λ e. absurd (
-        let same : i ≡ j = lists.once i j (get_or xs i no_name) (get_or xs j no_name) (slice_get-get_or xs i no_name below_i) (slice_get-get_or xs j no_name below_j)
-            (sym (get_or-map (λ (l : Listed). l.name) xs i no_name d below_i) ∙ e ∙ get_or-map (λ (l : Listed). l.name) xs j no_name d below_j) in
-        omega (arith, same, before))))
+      let same : i ≡ j = lists.once i j (get_or xs i no_name) (get_or xs j no_name) (slice_get-get_or xs i no_name below_i) (slice_get-get_or xs j no_name below_j)
+      (sym (get_or-map (λ (l : Listed). l.name) xs i no_name d below_i) ∙ e ∙ get_or-map (λ (l : Listed). l.name) xs j no_name d below_j) in
+      omega (arith, same, before))))
 
   module _ (ys : List Listed) (order : AreInOrder xs ys) where
     -- each of them is the directory's
@@ -100,11 +100,11 @@ module _ (xs : List Listed) (m : Names) (lists : Lists xs m) where
         let names : List (List ℕ) = map (λ (l : Listed). l.name) ys in
         let apart = IsDistinct-IsPermutation bytes_eq flips (map (λ (l : Listed). l.name) xs) names (IsPermutation-map (λ (l : Listed). l.name) xs ys order.moved) distinct in
         sorted_from_all_adjacent nat_list_cmp_total names [] (λ k below.
-          let size : length names ≡ length ys = length-map ys (λ (l : Listed). l.name) in
-          let next : k + 1 < length ys = omega (arith, below, size) in
-          let here : k < length ys = omega (arith, next) in
-          less (get_or names k []) (get_or names (k + 1) [])
-            (ap (λ n. is_lt (slice_cmp nat_cmp n (get_or names k []))) (get_or-map (λ (l : Listed). l.name) ys (k + 1) no_name [] next)
-              ∙ ap (λ n. is_lt (slice_cmp nat_cmp (get_or ys (k + 1) no_name).name n)) (get_or-map (λ (l : Listed). l.name) ys k no_name [] here)
-              ∙ order.sorted k no_name (omega arith) next)
-            (apart_from_distinct bytes_eq names k (k + 1) [] apart (omega arith) below))
+        let size : length names ≡ length ys = length-map ys (λ (l : Listed). l.name) in
+        let next : k + 1 < length ys = omega (arith, below, size) in
+        let here : k < length ys = omega (arith, next) in
+        less (get_or names k []) (get_or names (k + 1) [])
+        (ap (λ n. is_lt (slice_cmp nat_cmp n (get_or names k []))) (get_or-map (λ (l : Listed). l.name) ys (k + 1) no_name [] next)
+        ∙ ap (λ n. is_lt (slice_cmp nat_cmp (get_or ys (k + 1) no_name).name n)) (get_or-map (λ (l : Listed). l.name) ys k no_name [] here)
+        ∙ order.sorted k no_name (omega arith) next)
+        (apart_from_distinct bytes_eq names k (k + 1) [] apart (omega arith) below))

@@ -25,4 +25,4 @@ returns-in-Ok-clause-entries g c A k is_d =
     c.in-Ok.ensures
     ∙ ap (λ p. dots c.args.d.now.index p ++ entries_of c.args.table.now 3 c.sort_names.new.names.items) (parent_row _ c.args.table.now A k c.args.d.now c.requires.live is_d c.index.result.now c.index.ensures)
     ∙ ap (λ es. dots c.args.d.now.index (parent A c.args.d.now.index) ++ es) (entries_agree _ c.args.table.now A k c.args.d.now.index c.args.d.now.handle c.requires.live is_d
-      c.in_ok-names.names.items c.sort_names.new.names.items c.in_ok-names.ensures.names c.sort_names.ensures 3)
+    c.in_ok-names.names.items c.sort_names.new.names.items c.in_ok-names.ensures.names c.sort_names.ensures 3)
