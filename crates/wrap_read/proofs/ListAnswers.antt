@@ -10,7 +10,7 @@ use Rattle.nfs2_types.specs.declared.NfsResult.TheVariants.{Refused}
 use Rattle.nfs2_types.specs.declared.Stat.{Stat}
 use Rattle.nfs2_types.specs.declared.Time.{Time}
 use Rattle.nfs2_types.specs.declared.stat.TheConstants.{NOTDIR, STALE}
-use Rattle.nfs2_types.specs.Call.{read_dir}
+use Rattle.nfs2_types.specs.Call.{Call, read_dir}
 use Rattle.server_trait.specs.Tree.{Tree}
 use Rattle.server_trait.specs.declared.bench.ConfEntry.{ConfEntry}
 use Rattle.server_trait.specs.declared.bench.ConfTable.{ConfTable}
@@ -18,7 +18,7 @@ use Rattle.abs_model.specs.declared.entry.Entry.{Entry}
 use Rattle.abs_model.specs.Objects.{is_dir}
 use Rattle.abs_model.specs.Array.{entry_at, parent, live, at}
 use Rattle.abs_model.specs.Listed.{page, listing, listed}
-use Rattle.abs_model.specs.Machine.{first_of, refusals, result_of}
+use Rattle.abs_model.specs.Machine.{result_of}
 use Rattle.conf_map.specs.declared.table.Located.{Located}
 use Rattle.conf_map.specs.Stands.{StandValid}
 use Rattle.conf_map.specs.Tables.{located, index_in, IsLive}
@@ -34,10 +34,10 @@ use Rattle.wrap_read.proofs.StepLemmas.{parent_found}
 -- WORDS
 
 module _ (s : Option Tree) (table : ConfTable) (A : List Entry) (k : StandValid s table A) where
-  -- an index of a row and its fileid are words
-  small : (i : ℕ) (h : List ℕ) → IsLive table.rows.items (record { index = i; handle = h }) → i + 1 < 2 ^ 32
-  small i h is =
-      let below = live_within table.rows.items i h is in
+  -- the fileid of a live row is a word
+  small : (l : Located) → IsLive table.rows.items l → l.index + 1 < 2 ^ 32
+  small l is =
+      let below = live_within table.rows.items l.index l.handle is in
       let size = k.stands.size in
       let n = k.valid.size in
       let most = k.within.1 in
@@ -48,44 +48,52 @@ module _ (s : Option Tree) (table : ConfTable) (A : List Entry) (k : StandValid 
     where
       by_row : (o : Option ℕ) → index_in table l.handle ≡ o → unwrap_or o 0 + 1 < 2 ^ 32
       by_row None is = omega arith
-      by_row (Some i) is = small i l.handle ((k.stands.placed.by_handle l.handle i).0 is)
+      by_row (Some i) is = small (record { index = i; handle = l.handle }) ((k.stands.placed.by_handle l.handle i).0 is)
 
   -- the row of a live directory has its parent
-  module _ (d : Located) (is : IsLive table.rows.items d) (is_d : is_dir (entry_at A d.index) ≡ true) (r : ConfEntry) (read : r ≡ get_or table.rows.items d.index r) where
+  module _ (d : Located) (is : IsLive table.rows.items d) (is_d : is_dir (entry_at A d.index) ≡ true)
+      (r : ConfEntry) (read : r ≡ get_or table.rows.items d.index r) where
     pub parent_row : r.parent ≡ parent A d.index
     parent_row =
         let row = row_read table.rows.items d.index d.handle r is read in
         let e = at_row s table A k.stands d.index r d.handle row.is_row row.is_handle in
-        parent_agrees k.limits s table A k.stands k.valid d.index d.handle r e.0 e.1 e.2 (ap is_dir (sym (entry_at-some A d.index e.1 e.2.is_entry)) ∙ is_d)
+        let is_d' = ap is_dir (sym (entry_at-some A d.index e.1 e.2.is_entry)) ∙ is_d in
+        parent_agrees k.limits s table A k.stands k.valid d.index d.handle r e.0 e.1 e.2 is_d'
 
     pub parent_small : r.parent + 1 < 2 ^ 32
     parent_small =
         let p = parent_found s table A k d is is_d in
-        let below = small p.0.index p.0.handle p.3 in
+        let below = small p.0 p.3 in
         let same = parent_row in
         omega (arith, below, same, p.2)
 
 -- ANSWERS
 
-module _ (A : List Entry) (limits : Limits) (cred : Cred) (t : Time) (s : Option Tree) (table : ConfTable) (k : StandValid s table A) (dir : List ℕ) (cookie count : ℕ) where
+module _ (A : List Entry) (limits : Limits) (cred : Cred) (t : Time) (s : Option Tree) (table : ConfTable) (k : StandValid s table A)
+    (dir : List ℕ) (cookie count : ℕ) where
+  abbrev call : Call
+  call = read_dir dir cookie count
+
   -- the first refusal, by what the handle names
   abbrev refusal : Option ℕ → Option Stat
   refusal l = if is_none l then Some STALE else (if not (is_dir (entry_at A (unwrap_or l (length A)))) then Some NOTDIR else None)
 
-  pub list_stale : None ≡ located table.rows.items dir → Refused STALE ≡ result_of A limits cred t (read_dir dir cookie count)
-  list_stale is = sym (refused A limits cred t (read_dir dir cookie count) STALE
-      (ap refusal (live_agrees s table A k.stands dir ∙ ap (option_map (λ (l : Located). l.index)) (sym is))))
+  live_is : (o : Option Located) → o ≡ located table.rows.items dir → live A dir ≡ option_map (λ (l : Located). l.index) o
+  live_is o is = live_agrees s table A k.stands dir ∙ ap (option_map (λ (l : Located). l.index)) (sym is)
+
+  pub list_stale : None ≡ located table.rows.items dir → Refused STALE ≡ result_of A limits cred t call
+  list_stale is = sym (refused A limits cred t call STALE (ap refusal (live_is None is)))
 
   module _ (d : Located) (is : Some d ≡ located table.rows.items dir) where
-    is_index : live A dir ≡ Some d.index
-    is_index = live_agrees s table A k.stands dir ∙ ap (option_map (λ (l : Located). l.index)) (sym is)
+    pub list_other : is_dir (entry_at A d.index) ≡ false → Refused NOTDIR ≡ result_of A limits cred t call
+    list_other other =
+        sym (refused A limits cred t call NOTDIR (ap refusal (live_is (Some d) is) ∙ ap (λ b. if not b then Some NOTDIR else None) other))
 
-    pub list_other : is_dir (entry_at A d.index) ≡ false → Refused NOTDIR ≡ result_of A limits cred t (read_dir dir cookie count)
-    list_other other = sym (refused A limits cred t (read_dir dir cookie count) NOTDIR (ap refusal is_index ∙ ap (λ b. if not b then Some NOTDIR else None) other))
-
-    pub list_answer : is_dir (entry_at A d.index) ≡ true → (es : List ListEntry) (r : NfsResult) → es ≡ listing A d.index → r ≡ page es cookie count → r ≡ result_of A limits cred t (read_dir dir cookie count)
+    pub list_answer : is_dir (entry_at A d.index) ≡ true → (es : List ListEntry) (r : NfsResult) → es ≡ listing A d.index →
+        r ≡ page es cookie count → r ≡ result_of A limits cred t call
     list_answer is_d es r is_es is_r =
-        let none : first_of (refusals A limits (read_dir dir cookie count)) ≡ None = ap refusal is_index ∙ ap (λ b. if not b then Some NOTDIR else None) is_d in
-        is_r ∙ ap (λ es. page es cookie count) is_es ∙ ap (λ l. listed A (unwrap_or l (length A)) cookie count) (sym is_index)
-        ∙ ap (λ B. listed B (at A dir) cookie count) (sym (answered_array A limits cred t (read_dir dir cookie count) none))
-        ∙ sym (answered A limits cred t (read_dir dir cookie count) none)
+        let none = ap refusal (live_is (Some d) is) ∙ ap (λ b. if not b then Some NOTDIR else None) is_d in
+        is_r ∙ ap (λ es. page es cookie count) is_es
+        ∙ ap (λ l. listed A (unwrap_or l (length A)) cookie count) (sym (live_is (Some d) is))
+        ∙ ap (λ B. listed B (at A dir) cookie count) (sym (answered_array A limits cred t call none))
+        ∙ sym (answered A limits cred t call none)

@@ -1,6 +1,6 @@
 -- Names that are listed once and put in order: what holds of a list holds of it in another order, and its names rise.
 use Rattle.std.proofs.Common.{◌≡◌, ◌≢◌, ℕ, ◌+◌, ◌<◌, arith, true, false, Bool, List, [], ◌∷◌, length, map, get_or, slice_get, Some, refl, sym, ap, ◌∙◌, subst, Ordering}
-use Rattle.std.specs.Prelude.{bytes_eq}
+use Rattle.std.specs.Prelude.{bytes_eq, All}
 use Rattle.std.specs.List.{list_all, AllByRecursion, IsDistinct}
 use Rattle.std.specs.List.Sorted.{IsStrictlySortedBy}
 use Rattle.std.specs.Ordering.{nat_cmp, is_lt, is_eq, ordering_reverse}
@@ -24,6 +24,16 @@ use Rattle.abs_model.specs.Objects.{name_lt}
 use Rattle.abs_model.specs.Valid.{is_rising}
 use Rattle.wrap_read.specs.Rows.{AreInOrder}
 
+-- the names of a list, and of rows
+abbrev pub name_in : Listed → List ℕ
+name_in l = l.name
+
+abbrev pub names_in : List Listed → List (List ℕ)
+names_in ls = map name_in ls
+
+abbrev pub row_names : List NameRow → List (List ℕ)
+row_names rows = map (λ (r : NameRow). r.name) rows
+
 -- ORDER
 
 -- not above, and another: below
@@ -36,23 +46,23 @@ less a b high other =
     go Equal p e h k = absurd (true≢false k)
     go Greater p e h k = absurd (true≢false (sym (ap is_lt e) ∙ h))
 
-above : (name : List ℕ) (rows : List NameRow) → AllByRecursion (λ y. slice_cmp nat_cmp name y ≡ Less) (map (λ (r : NameRow). r.name) rows) → list_all (λ s. name_lt name s.name) rows ≡ true
+above : (name : List ℕ) (rows : List NameRow) → AllByRecursion (λ y. slice_cmp nat_cmp name y ≡ Less) (row_names rows) →
+    list_all (λ s. name_lt name s.name) rows ≡ true
 above name [] k = refl
 above name (r ∷ rs) k = and_from (name_lt name r.name) _ (ap is_lt k.0) (above name rs k.1)
 
 -- rows whose names stand in order rise
-pub rows_rise : (rows : List NameRow) → IsStrictlySortedBy (slice_cmp nat_cmp) (map (λ (r : NameRow). r.name) rows) → is_rising rows ≡ true
+pub rows_rise : (rows : List NameRow) → IsStrictlySortedBy (slice_cmp nat_cmp) (row_names rows) → is_rising rows ≡ true
 unfolding IsStrictlySortedBy
 rows_rise [] k = refl
-rows_rise (r ∷ rs) k = and_from (list_all (λ s. name_lt r.name s.name) rs) (is_rising rs) (above r.name rs k.0) (rows_rise rs k.1)
+rows_rise (r ∷ rs) k =
+    and_from (list_all (λ s. name_lt r.name s.name) rs) (is_rising rs) (above r.name rs k.0) (rows_rise rs k.1)
 
 -- THE SAME NAMES IN ANOTHER ORDER
 
-no_name : Listed
-no_name = record { name = []; handle = [] }
-
 flips : (x y : List ℕ) → bytes_eq x y ≡ bytes_eq y x
-flips x y = sym (is_eq-slice_cmp x y) ∙ ap is_eq (nat_list_cmp_total.antisymm x y) ∙ go (slice_cmp nat_cmp y x) ∙ is_eq-slice_cmp y x
+flips x y =
+    sym (is_eq-slice_cmp x y) ∙ ap is_eq (nat_list_cmp_total.antisymm x y) ∙ go (slice_cmp nat_cmp y x) ∙ is_eq-slice_cmp y x
   where
     go : (o : Ordering) → is_eq (ordering_reverse o) ≡ is_eq o
     go Less = refl
@@ -66,24 +76,40 @@ other_name x y ne = go (bytes_eq x y) refl
     go false e = e
     go true e = absurd (ne ((bytes_eq-Decides x y).0 e))
 
+no_name : Listed
+no_name = record { name = []; handle = [] }
+
+abbrev nth : List Listed → ℕ → Listed
+nth ls i = get_or ls i no_name
+
+at_nth : (ls : List Listed) (i : ℕ) → i < length ls → slice_get ls i ≡ Some (nth ls i)
+at_nth ls i below = slice_get-get_or ls i no_name below
+
+name_nth : (ls : List Listed) (i : ℕ) (d : List ℕ) → i < length ls → get_or (names_in ls) i d ≡ (nth ls i).name
+name_nth ls i d below = get_or-map name_in ls i no_name d below
+
 module _ (xs : List Listed) (m : Names) (lists : Lists xs m) where
-  distinct : IsDistinct bytes_eq (map (λ (l : Listed). l.name) xs)
-  distinct = IsDistinct-from_apart bytes_eq (map (λ (l : Listed). l.name) xs) (λ i j d before below.
-      let size : length (map (λ (l : Listed). l.name) xs) ≡ length xs = length-map xs (λ (l : Listed). l.name) in
+  apart : (i j : ℕ) (d : List ℕ) → i < j → j < length (names_in xs) → bytes_eq (get_or (names_in xs) i d) (get_or (names_in xs) j d) ≡ false
+  apart i j d before below =
+      let size : length (names_in xs) ≡ length xs = length-map xs name_in in
       let below_j : j < length xs = omega (arith, below, size) in
       let below_i : i < length xs = omega (arith, below_j, before) in
-      other_name _ _ (λ e. absurd (
-      let same : i ≡ j = lists.once i j (get_or xs i no_name) (get_or xs j no_name) (slice_get-get_or xs i no_name below_i) (slice_get-get_or xs j no_name below_j)
-      (sym (get_or-map (λ (l : Listed). l.name) xs i no_name d below_i) ∙ e ∙ get_or-map (λ (l : Listed). l.name) xs j no_name d below_j) in
-      omega (arith, same, before))))
+      other_name _ _ (λ e.
+      let names = sym (name_nth xs i d below_i) ∙ e ∙ name_nth xs j d below_j in
+      let same = lists.once i j (nth xs i) (nth xs j) (at_nth xs i below_i) (at_nth xs j below_j) names in
+      absurd (omega (arith, same, before)))
+
+  distinct : IsDistinct bytes_eq (names_in xs)
+  distinct = IsDistinct-from_apart bytes_eq (names_in xs) apart
 
   module _ (ys : List Listed) (order : AreInOrder xs ys) where
     -- each of them is the directory's
     pub sound : (k : ℕ) (l : Listed) → slice_get ys k ≡ Some l → get m l.name ≡ Some l.handle
     sound k l at =
-        let all = All-permutation (λ (l : Listed). get m l.name ≡ Some l.handle) xs ys order.moved (λ k d below. lists.sound k (get_or xs k d) (slice_get-get_or xs k d below)) in
+        let Is : Listed → Type 0 = λ l. get m l.name ≡ Some l.handle in
+        let old : All Is xs = λ k d below. lists.sound k (get_or xs k d) (slice_get-get_or xs k d below) in
         let below = slice_get_within ys k l at in
-        subst (λ (l : Listed). get m l.name ≡ Some l.handle) (some_same (slice_get-get_or ys k l below) at) (all k l below)
+        subst Is (some_same (slice_get-get_or ys k l below) at) (All-permutation Is xs ys order.moved old k l below)
 
     -- each of the directory's is there
     pub complete : (name h : List ℕ) → get m name ≡ Some h → (k : ℕ) × (slice_get ys k ≡ Some (record { name = name; handle = h }))
@@ -94,17 +120,18 @@ module _ (xs : List Listed) (m : Names) (lists : Lists xs m) where
         let there = Contains-permutation xs ys l order.moved (k.0, below, some_same (slice_get-get_or xs k.0 l below) k.1) in
         (there.0, slice_get-get_or ys there.0 l there.1 ∙ ap Some there.2)
 
+    distinct_still : IsDistinct bytes_eq (names_in ys)
+    distinct_still =
+        IsDistinct-IsPermutation bytes_eq flips (names_in xs) (names_in ys) (IsPermutation-map name_in xs ys order.moved) distinct
+
     -- and their names stand in order
-    pub names_sorted : IsStrictlySortedBy (slice_cmp nat_cmp) (map (λ (l : Listed). l.name) ys)
-    names_sorted =
-        let names : List (List ℕ) = map (λ (l : Listed). l.name) ys in
-        let apart = IsDistinct-IsPermutation bytes_eq flips (map (λ (l : Listed). l.name) xs) names (IsPermutation-map (λ (l : Listed). l.name) xs ys order.moved) distinct in
-        sorted_from_all_adjacent nat_list_cmp_total names [] (λ k below.
-        let size : length names ≡ length ys = length-map ys (λ (l : Listed). l.name) in
+    pub names_sorted : IsStrictlySortedBy (slice_cmp nat_cmp) (names_in ys)
+    names_sorted = sorted_from_all_adjacent nat_list_cmp_total (names_in ys) [] (λ k below.
+        let size : length (names_in ys) ≡ length ys = length-map ys name_in in
         let next : k + 1 < length ys = omega (arith, below, size) in
         let here : k < length ys = omega (arith, next) in
-        less (get_or names k []) (get_or names (k + 1) [])
-        (ap (λ n. is_lt (slice_cmp nat_cmp n (get_or names k []))) (get_or-map (λ (l : Listed). l.name) ys (k + 1) no_name [] next)
-        ∙ ap (λ n. is_lt (slice_cmp nat_cmp (get_or ys (k + 1) no_name).name n)) (get_or-map (λ (l : Listed). l.name) ys k no_name [] here)
+        less (get_or (names_in ys) k []) (get_or (names_in ys) (k + 1) [])
+        (ap (λ n. is_lt (slice_cmp nat_cmp n (get_or (names_in ys) k []))) (name_nth ys (k + 1) [] next)
+        ∙ ap (λ n. is_lt (slice_cmp nat_cmp (nth ys (k + 1)).name n)) (name_nth ys k [] here)
         ∙ order.sorted k no_name (omega arith) next)
-        (apart_from_distinct bytes_eq names k (k + 1) [] apart (omega arith) below))
+        (apart_from_distinct bytes_eq (names_in ys) k (k + 1) [] distinct_still (omega arith) below))

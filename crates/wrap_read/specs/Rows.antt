@@ -20,7 +20,8 @@ fileid_of table l = unwrap_or (index_in table l.handle) 0 + 1
 -- the names' entries, their cookies counted from this one
 abbrev pub entries_of : ConfTable → ℕ → List Listed → List ListEntry
 entries_of table cookie [] = []
-entries_of table cookie (l ∷ ls) = record { fileid = fileid_of table l; name = l.name; cookie = cookie } ∷ entries_of table (cookie + 1) ls
+entries_of table cookie (l ∷ ls) =
+    record { fileid = fileid_of table l; name = l.name; cookie = cookie } ∷ entries_of table (cookie + 1) ls
 
 -- the fileids are 32-bit words
 abbrev pub HasFileids : ConfTable → Type 0

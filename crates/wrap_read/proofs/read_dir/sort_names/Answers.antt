@@ -9,5 +9,6 @@ use Rattle.wrap_read.proofs.read_dir.sort_names.Goals as goal
 pub returns : goal.returns
 returns c = record {
   moved = c.sort_unstable_by.ensures.permutation;
-  sorted = c.sort_unstable_by.ensures.sorted (λ x y. is_lt (slice_cmp nat_cmp x.name y.name)) (ranks_by nat_list_cmp_total (λ (l : Listed). l.name)) (answers_always _ _ _ (λ f a r g h. search rules));
+  sorted = c.sort_unstable_by.ensures.sorted (λ x y. is_lt (slice_cmp nat_cmp x.name y.name))
+      (ranks_by nat_list_cmp_total (λ (l : Listed). l.name)) (answers_always _ _ _ (λ f a r g h. search rules));
 }
