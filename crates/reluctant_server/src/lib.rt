@@ -4,3 +4,6 @@
 mod server;
 
 pub use server::Reluctant;
+
+#[cfg(test)]
+mod tests;

@@ -1,0 +1,58 @@
+//! The service over a path server, and over one that does no more than it must: each call gives what the plain machine
+//! gives, with each refusal and each effect of RFC 1094, 2.2.
+
+mod dirs;
+mod files;
+mod service;
+mod words;
+
+use crate::Reluctant;
+use path_server::PathServer;
+use server_trait::{ServerLimits, Srv};
+use service::Service;
+use std::alloc::Global;
+use std::test::Fail;
+
+const LIMITS: ServerLimits = ServerLimits {
+    nodes: 19,
+    bytes: 1_114_112,
+};
+
+/// The tables of directories, over a server.
+fn directories(alloc: Global, server: Srv) -> Result<(), Fail> {
+    let mut service = Service::new(alloc, server)?;
+    dirs::looked_at(alloc, &mut service)?;
+    dirs::made(alloc, &mut service)?;
+    dirs::listed(alloc, &mut service)?;
+    dirs::filled(alloc, &mut service)
+}
+
+/// The tables of files and links, over a server.
+fn files_and_links(alloc: Global, server: Srv) -> Result<(), Fail> {
+    let mut service = Service::new(alloc, server)?;
+    files::made(alloc, &mut service)?;
+    files::written(alloc, &mut service)?;
+    files::set(alloc, &mut service)
+}
+
+/// A path server.
+fn path_server(alloc: Global) -> Result<PathServer, Fail> {
+    match PathServer::new(alloc, LIMITS) {
+        Ok(server) => Ok(server),
+        Err(_) => Err("no memory".into()),
+    }
+}
+
+#[test]
+fn over_a_path_server(rt: HostRuntime) -> Result<(), Fail> {
+    let alloc = rt.alloc();
+    directories(alloc, Box::new(alloc, path_server(alloc)?)?)?;
+    files_and_links(alloc, Box::new(alloc, path_server(alloc)?)?)
+}
+
+#[test]
+fn over_a_reluctant_server(rt: HostRuntime) -> Result<(), Fail> {
+    let alloc = rt.alloc();
+    directories(alloc, Box::new(alloc, Reluctant::new(path_server(alloc)?))?)?;
+    files_and_links(alloc, Box::new(alloc, Reluctant::new(path_server(alloc)?))?)
+}

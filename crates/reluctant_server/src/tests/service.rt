@@ -1,0 +1,178 @@
+//! Calls that go to a server and to the plain machine.
+
+ghost use Rattle.std.specs.Prelude.{◌≡◌, ◌<◌, ◌≤◌, ◌^◌, IfOk, OnOk, length};
+ghost use Rattle.conf_map.specs.Stands.{HasRoom};
+ghost use Rattle.reluctant_server.specs.Ready.{IsReady};
+
+use abs_plain::{AbsArray, is_valid, plain_step};
+use conf_map::{TouchList, fresh};
+use dispatch::{answer, is_built};
+use nfs2_args::read_args;
+use nfs2_results::read_result;
+use nfs2_types::{Blob16, Cred, Limits, NfsResult, Time, Word};
+use rpc_core::write_call;
+use server_trait::{ConfTable, FileServer, Srv};
+use std::alloc::{AllocError, Global};
+use std::collections::BTreeMap;
+use std::test::Fail;
+
+/// The bytes of words, the high byte first.
+fn bytes_of(alloc: Global, parts: &[&[u32]]) -> Result<Vec<u8>, AllocError> {
+    let mut bytes = Vec::new(alloc);
+    for words in parts {
+        for word in *words {
+            bytes.extend_from_slice(&word.to_be_bytes())?;
+        }
+    }
+    Ok(bytes)
+}
+
+/// What the plain machine gives to the call with these arguments.
+fn plain(
+    alloc: Global,
+    array: &mut AbsArray,
+    limits: &Limits,
+    cred: &Cred,
+    secs: u32,
+    proc: u32,
+    args: &[u8],
+) -> Result<NfsResult, Fail>
+    requires { proc ≤ 17 }
+{
+    let Ok(args) = read_args(proc, args) else {
+        return Err("the arguments are not spelled".into());
+    };
+    if !is_valid(alloc, array.entries(), limits)? {
+        return Err("the array is not valid".into());
+    }
+    let time = Time { secs, micros: 0 };
+    Ok(plain_step(alloc, array, limits, cred, time, &args)?)
+}
+
+/// What an accepted reply says.
+fn said(alloc: Global, xid: u32, proc: u32, word: &Word) -> Result<NfsResult, Fail>
+    requires { proc ≤ 17 }
+{
+    let Word::Reply(reply) = word else {
+        return Err("no reply".into());
+    };
+    let front = bytes_of(alloc, &[&[xid, 1, 0, 0, 0, 0]])?;
+    let text = reply.as_slice();
+    if text.len() < 24 || text[..24] != *front.as_slice() {
+        return Err("not accepted".into());
+    }
+    match read_result(alloc, proc, &text[24..]) {
+        Ok(result) => Ok(result),
+        Err(_) => Err("the result is not spelled".into()),
+    }
+}
+
+/// The status of a result; that of a call without one is OK.
+fn status_of(result: &NfsResult) -> u32 {
+    match result {
+        NfsResult::Refused(stat) => stat.0,
+        _ => 0,
+    }
+}
+
+/// A service over a server, and the array of the plain machine.
+#[derive(Drop)]
+pub struct Service {
+    server: Srv,
+    table: ConfTable,
+    array: AbsArray,
+    limits: Limits,
+    calls: u32,
+}
+
+impl Service {
+    /// Both at their beginning, with sixteen entries.
+    pub fn new(alloc: Global, mut server: Srv) -> Result<Service, Fail>
+        ensures { IfOk result (λ s. IsReady s.limits (⟦<Srv as FileServer>⟧.state s.server) s.table) }
+    {
+        let limits = Limits {
+            n: 16,
+            k: 1024,
+            t: 65536,
+            f: 0,
+        };
+        let most = server.limits();
+        if most.nodes < 19 || most.bytes < 65536 + 1048576 {
+            return Err("a small server".into());
+        }
+        let mut table = ConfTable {
+            rows: Vec::new(alloc),
+            by_handle: BTreeMap::new(alloc),
+        };
+        match fresh(alloc, &mut server, &mut table, 16) {
+            Ok(()) => {}
+            Err(_) => return Err("the server failed".into()),
+        }
+        Ok(Service {
+            server,
+            table,
+            array: AbsArray::empty(alloc, 16)?,
+            limits,
+            calls: 0,
+        })
+    }
+
+    /// Sends a call of user 7 to both, and fails unless the same comes of it. The n-th call comes at the second n.
+    pub fn call(&mut self, alloc: Global, proc: u32, parts: &[&[u32]]) -> Result<NfsResult, Fail>
+        requires ready { IsReady self.old.limits (⟦<Srv as FileServer>⟧.state self.old.server) self.old.table }
+        requires proc { proc ≤ 17 }
+        ensures { OnOk result (IsReady self.new.limits (⟦<Srv as FileServer>⟧.state self.new.server) self.new.table) }
+    {
+        let secs = self.calls.saturating_add(1);
+        let cred = Cred {
+            uid: 7,
+            gid: 8,
+            gids: Blob16::new(),
+        };
+        let args = bytes_of(alloc, parts)?;
+        let call = write_call(alloc, secs, 100003, 2, proc, &cred, &args)?;
+        if !is_built(&call) {
+            return Err("not built".into());
+        }
+        let time = Time { secs, micros: 0 };
+        let mut told = TouchList::new(alloc);
+        let word = match answer(
+            alloc,
+            &mut self.server,
+            &mut self.table,
+            &self.limits,
+            time,
+            &call,
+            &mut told,
+        ) {
+            Ok(word) => word,
+            Err(_) => return Err("the server failed".into()),
+        };
+        self.calls = secs;
+        let found = said(alloc, secs, proc, &word)?;
+        let expected = plain(alloc, &mut self.array, &self.limits, &cred, secs, proc, &args)?;
+        if found != expected {
+            return Err("another result than the plain machine's".into());
+        }
+        Ok(found)
+    }
+
+    /// Sends a call to both, and fails unless they give the same, with this status.
+    pub fn gives(
+        &mut self,
+        alloc: Global,
+        status: u32,
+        proc: u32,
+        parts: &[&[u32]],
+    ) -> Result<(), Fail>
+        requires ready { IsReady self.old.limits (⟦<Srv as FileServer>⟧.state self.old.server) self.old.table }
+        requires proc { proc ≤ 17 }
+        ensures { OnOk result (IsReady self.new.limits (⟦<Srv as FileServer>⟧.state self.new.server) self.new.table) }
+    {
+        let found = self.call(alloc, proc, parts)?;
+        if status_of(&found) != status {
+            return Err(format!(in alloc; "procedure {proc} gives {found:?}")?.into());
+        }
+        Ok(())
+    }
+}
