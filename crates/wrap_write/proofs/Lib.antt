@@ -1,0 +1,3 @@
+mod ByteLaws
+mod Edits
+mod Writings
