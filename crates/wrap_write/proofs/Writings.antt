@@ -1,11 +1,10 @@
 -- A piece that is handed to a server until all of it is taken.
-use Rattle.std.proofs.Common.{◌≡◌, ◌≢◌, ℕ, ◌+◌, ◌-◌, ◌≤◌, ◌<◌, max, arith, true, List, length, take, drop, Option, Some, None, Ok, Err, IsSome, is_some, refl, sym, ap, ◌∙◌, subst, length-take, length-drop, inl, inr}
+use Rattle.std.proofs.Common.{◌≡◌, ℕ, ◌+◌, ◌-◌, ◌≤◌, ◌<◌, max, arith, true, false, List, length, take, drop, Option, Some, None, Ok, Err, IsSome, is_some, refl, sym, ap, ◌∙◌, subst, length-take, length-drop, inl, inr}
 use Rattle.std.specs.Prelude.{◌==◌, nat_eq}
 use Rattle.std.proofs.lemmas.Bool.{cond-true, cond-false}
 use Rattle.std.proofs.lemmas.List.{length-take-le, nil_from_length, take_rest}
 use Rattle.nfs2_types.specs.Bytes.{resized, overwritten}
 use Rattle.abs_model.specs.Objects.{written}
-use Rattle.conf_map.proofs.ArrayFacts.{eq_is, eq_not}
 use Rattle.server_trait.specs.Tree.{Tree, Server, bytes_at, edited, with_bytes}
 use Rattle.server_trait.specs.Step.{HasTree, IsBroken, NoRoom}
 use Rattle.server_trait.specs.Calls.{Write, WriteErr, Wrote}
@@ -114,12 +113,12 @@ no_gap s h size o k within t b is at =
     is ∙ ap Some (sym (bytes_same t h b at (resized (max (length b) o)) (resized_same (max (length b) o) b (omega (arith, same, long, within)))))
 
 -- no bytes change nothing
-pub nothing_put : (s : Server) (h : List ℕ) (size o : ℕ) (p : List ℕ) → ((b : List ℕ) × CanHold s h b (size_after o (length p) (length b)) × (length b ≡ size)) → length p ≡ 0 →
+pub nothing_put : (s : Server) (h : List ℕ) (size o : ℕ) (p : List ℕ) → ((b : List ℕ) × CanHold s h b (size_after o (length p) (length b)) × (length b ≡ size)) → (length p == 0) ≡ true →
     (t : Tree) → s.tree ≡ Some t → s.tree ≡ Some (edited t h (with_bytes (written o p)))
 nothing_put s h size o p k none t is =
-    is ∙ ap Some (sym (bytes_same t h k.0 (bytes_there s h k.0 (size_after o (length p) (length k.0)) k.1 t is) (written o p) (cond-true (length p == 0) k.0 (overwritten o p k.0) (eq_is (length p) 0 none))))
+    is ∙ ap Some (sym (bytes_same t h k.0 (bytes_there s h k.0 (size_after o (length p) (length k.0)) k.1 t is) (written o p) (cond-true (length p == 0) k.0 (overwritten o p k.0) none)))
 
-module _ (s : Server) (h : List ℕ) (size o : ℕ) (p : List ℕ) (k : (b : List ℕ) × CanHold s h b (size_after o (length p) (length b)) × (length b ≡ size)) (some : length p ≢ 0) where
+module _ (s : Server) (h : List ℕ) (size o : ℕ) (p : List ℕ) (k : (b : List ℕ) × CanHold s h b (size_after o (length p) (length b)) × (length b ≡ size)) (some : (length p == 0) ≡ false) where
   abbrev was : List ℕ
   was = k.0
 
@@ -127,7 +126,7 @@ module _ (s : Server) (h : List ℕ) (size o : ℕ) (p : List ℕ) (k : (b : Lis
   filled_up = resized (max (length was) o)
 
   whole : CanHold s h was (max (length was) (o + length p))
-  whole = subst (CanHold s h was) (cond-false (length p == 0) (length was) (max (length was) (o + length p)) (eq_not (length p) 0 some)) k.1
+  whole = subst (CanHold s h was) (cond-false (length p == 0) (length was) (max (length was) (o + length p)) some) k.1
 
   -- a gap can be filled
   pub can_fill : (b : List ℕ) × CanHold s h b (max (length b) o) × (length b ≡ size)
@@ -152,4 +151,4 @@ module _ (s : Server) (h : List ℕ) (size o : ℕ) (p : List ℕ) (k : (b : Lis
         let at = bytes_there s h was (max (length was) (o + length p)) whole t is in
         put (edited t h (with_bytes filled_up)) (filled t was is at)
         ∙ ap Some (bytes_twice t h was at filled_up (overwritten o p) (written o p)
-        (overwritten_filled o p was ∙ sym (cond-false (length p == 0) was (overwritten o p was) (eq_not (length p) 0 some))))
+        (overwritten_filled o p was ∙ sym (cond-false (length p == 0) was (overwritten o p was) some)))
