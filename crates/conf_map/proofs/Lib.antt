@@ -14,6 +14,7 @@ pub mod Kept
 pub mod LiveRows
 pub mod Made
 pub mod Named
+pub mod ObjectChanges
 pub mod ObjectFacts
 pub mod OneArray
 pub mod PlacedRows

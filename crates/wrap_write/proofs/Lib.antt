@@ -1,3 +1,4 @@
 mod ByteLaws
 mod Edits
+mod TargetFacts
 mod Writings

@@ -1,3 +1,4 @@
 pub mod Kinds
 pub mod Puts
+pub mod Settings
 pub mod Targets

@@ -1,5 +1,10 @@
 //! Procedures that write a file or set attributes, over a boxed server.
 #![tactic(auto)]
 
+mod calls;
 mod put;
+mod set_attr;
 mod target;
+mod write;
+
+pub use calls::write_proc;
