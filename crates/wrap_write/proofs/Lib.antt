@@ -1,4 +1,10 @@
+mod Alike
 mod ByteLaws
+mod CallSteps
 mod Edits
+mod Holdings
+mod SetDone
+mod Settled
 mod TargetFacts
+mod WriteDone
 mod Writings

@@ -22,7 +22,7 @@ use Rattle.conf_map.specs.declared.table.Located.{Located}
 use Rattle.conf_map.proofs.Seen.{live_agrees, located_live}
 use Rattle.conf_map.proofs.Shows.{stand_valid}
 use Rattle.wrap_write.specs.declared.target.Target.{Target}
-use Rattle.wrap_write.specs.Targets.{IsTarget, TargetFound, IsCall, no_write, no_size}
+use Rattle.wrap_write.specs.Targets.{IsTarget, TargetFound, IsCall, write_tests, size_tests}
 
 -- OBJECTS
 
@@ -43,24 +43,17 @@ module _ (limits : Limits) (within : AreWithin limits) (s : Option Tree) (table 
 -- REFUSALS
 
 module _ (A : List Entry) (limits : Limits) where
-  -- a stale handle is refused
-  pub write_stale : (file : List ℕ) (offset : ℕ) (bytes : List ℕ) → is_stale A file ≡ true → first_of (refusals A limits (write file offset bytes)) ≡ Some STALE
-  write_stale file offset bytes is = ap (λ b. if b then Some STALE else no_write A limits (entry_at A (at A file)) offset (length bytes)) is
-
-  pub set_stale : (node : List ℕ) (sattr : Sattr) → is_stale A node ≡ true → first_of (refusals A limits (set_attr node sattr)) ≡ Some STALE
-  set_stale node sattr is = ap (λ b. if b then Some STALE else no_size A limits (entry_at A (at A node)) sattr.size) is
-
   module _ (rows : List ConfEntry) (node : List ℕ) (o : Target) (k : IsTarget A rows node o) where
     fresh : is_stale A node ≡ false
     fresh = ap is_none k.is_index
 
     -- other refusals are those of the entry
-    pub write_refusals : (offset : ℕ) (bytes : List ℕ) → first_of (refusals A limits (write node offset bytes)) ≡ no_write A limits (entry_at A o.at.index) offset (length bytes)
+    pub write_refusals : (offset : ℕ) (bytes : List ℕ) → first_of (refusals A limits (write node offset bytes)) ≡ first_of (write_tests A limits (entry_at A o.at.index) offset (length bytes))
     write_refusals offset bytes =
-        ap (λ b. if b then Some STALE else no_write A limits (entry_at A (at A node)) offset (length bytes)) fresh
-        ∙ ap (λ i. no_write A limits (entry_at A i) offset (length bytes)) (at-live A node o.at.index k.is_index)
+        ap (λ b. if b then Some STALE else first_of (write_tests A limits (entry_at A (at A node)) offset (length bytes))) fresh
+        ∙ ap (λ i. first_of (write_tests A limits (entry_at A i) offset (length bytes))) (at-live A node o.at.index k.is_index)
 
-    pub set_refusals : (sattr : Sattr) → first_of (refusals A limits (set_attr node sattr)) ≡ no_size A limits (entry_at A o.at.index) sattr.size
+    pub set_refusals : (sattr : Sattr) → first_of (refusals A limits (set_attr node sattr)) ≡ first_of (size_tests A limits (entry_at A o.at.index) sattr.size)
     set_refusals sattr =
-        ap (λ b. if b then Some STALE else no_size A limits (entry_at A (at A node)) sattr.size) fresh
-        ∙ ap (λ i. no_size A limits (entry_at A i) sattr.size) (at-live A node o.at.index k.is_index)
+        ap (λ b. if b then Some STALE else first_of (size_tests A limits (entry_at A (at A node)) sattr.size)) fresh
+        ∙ ap (λ i. first_of (size_tests A limits (entry_at A i) sattr.size)) (at-live A node o.at.index k.is_index)

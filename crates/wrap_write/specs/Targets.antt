@@ -9,7 +9,7 @@ use Rattle.server_trait.specs.declared.bench.ConfEntry.{ConfEntry}
 use Rattle.abs_model.specs.declared.entry.Entry.{Entry}
 use Rattle.abs_model.specs.Objects.{is_dir, is_link, bytes_of}
 use Rattle.abs_model.specs.Array.{entry_at, live}
-use Rattle.abs_model.specs.Machine.{◌answers◌, first_of, refusals, is_stale, file_limit, no_room}
+use Rattle.abs_model.specs.Machine.{Refusal, ◌answers◌, first_of, refusals, is_stale, file_limit, no_room}
 use Rattle.conf_map.specs.Found.{IsSeen, is_dir_kind, is_link_kind}
 use Rattle.conf_map.specs.Tables.{IsLive}
 use Rattle.wrap_write.specs.declared.target.Target.{Target}
@@ -33,21 +33,21 @@ no_file a = first_of ((is_dir_kind a.kind answers ISDIR) ∷ (is_link_kind a.kin
 abbrev pub no_space : List Entry → Limits → ℕ → ℕ → ℕ → Option Stat
 no_space A limits goes end comes = first_of ((nat_lt file_limit end answers FBIG) ∷ (no_room A limits goes comes answers NOSPC) ∷ [])
 
--- the first refusal of an entry at which bytes are written
-abbrev pub no_write : List Entry → Limits → Entry → ℕ → ℕ → Option Stat
-no_write A limits e offset count = first_of (
-  (is_dir e answers ISDIR) ∷
-  (is_link e answers ACCES) ∷
-  (nat_lt 0 count && nat_lt file_limit (offset + count) answers FBIG) ∷
-  (nat_lt 0 count && no_room A limits (length (bytes_of e)) (max (length (bytes_of e)) (offset + count)) answers NOSPC) ∷ [])
+-- the tests of an entry at which bytes are written
+abbrev pub write_tests : List Entry → Limits → Entry → ℕ → ℕ → List Refusal
+write_tests A limits e offset count =
+    (is_dir e answers ISDIR) ∷
+    (is_link e answers ACCES) ∷
+    (nat_lt 0 count && nat_lt file_limit (offset + count) answers FBIG) ∷
+    (nat_lt 0 count && no_room A limits (length (bytes_of e)) (max (length (bytes_of e)) (offset + count)) answers NOSPC) ∷ []
 
--- the first refusal of an entry that gets a size, if one is given
-abbrev pub no_size : List Entry → Limits → Entry → Option ℕ → Option Stat
-no_size A limits e size = first_of (
-  (is_some size && is_dir e answers ISDIR) ∷
-  (is_some size && is_link e answers ACCES) ∷
-  (is_some size && nat_lt file_limit (unwrap_or size 0) answers FBIG) ∷
-  (is_some size && no_room A limits (length (bytes_of e)) (unwrap_or size 0) answers NOSPC) ∷ [])
+-- the tests of an entry that gets a size, if one is given
+abbrev pub size_tests : List Entry → Limits → Entry → Option ℕ → List Refusal
+size_tests A limits e size =
+    (is_some size && is_dir e answers ISDIR) ∷
+    (is_some size && is_link e answers ACCES) ∷
+    (is_some size && nat_lt file_limit (unwrap_or size 0) answers FBIG) ∷
+    (is_some size && no_room A limits (length (bytes_of e)) (unwrap_or size 0) answers NOSPC) ∷ []
 
 -- a call that is not refused, and its object
 pub record IsCall (A : List Entry) (limits : Limits) (rows : List ConfEntry) (call : Call) (node : List ℕ) (o : Target) : Type 0 where

@@ -27,10 +27,11 @@ fn set_size(server: &mut Srv, node: &Handle, size: Option<u32>) -> Result<(), Wr
         (state server.new).tree ≡ Some (edited t node.now (node_sized size))) }
     ensures watched { Watched (state server.old) (state server.new) result }
 {
-    match size {
-        Some(size) => resize(server, node, size),
-        None => Ok(()),
-    }
+    let Some(size) = size else {
+        return Ok(());
+    };
+    resize(server, node, size)?;
+    Ok(())
 }
 
 /// Sets the mode and the owners of a node.

@@ -3,11 +3,12 @@
 ghost use Rattle.std.specs.Prelude.{◌≡◌, ◌<◌, ◌^◌, ◌+◌, max, List, length, IfOk, OnOk};
 ghost use Rattle.nfs2_types.specs.Call as calls;
 ghost use Rattle.abs_model.specs.declared.entry.Entry.{Entry};
+ghost use Rattle.abs_model.specs.Machine.{first_of};
 ghost use Rattle.conf_map.specs.Found.{IsSeen};
 ghost use Rattle.conf_map.specs.Notice.{Watched};
 ghost use Rattle.conf_map.specs.Stands.{StandsValid, AreWithin};
 ghost use Rattle.wrap_write.specs.Targets as targets;
-ghost use Rattle.wrap_write.specs.Targets.{TargetFound, CallFound};
+ghost use Rattle.wrap_write.specs.Targets.{write_tests, size_tests, TargetFound, CallFound};
 
 use conf_map::{Located, locate, no_room, object_at};
 use nfs2_types::{Handle, Kind, Limits, Sattr, Stat, stat};
@@ -96,7 +97,7 @@ fn no_write(
     requires few { count < 2 ^ 32 }
     ensures refused { IfOk result (λ o. (A : List Entry) (e : Entry) →
         StandsValid limits.now (state server.old).tree table.now A → IsSeen e attr.now →
-        o ≡ targets.no_write A limits.now e offset count) }
+        o ≡ first_of (write_tests A limits.now e offset count)) }
     ensures same { OnOk result ((state server.new).tree ≡ (state server.old).tree) }
     ensures watched { Watched (state server.old) (state server.new) result }
 {
@@ -121,7 +122,7 @@ fn no_size(
     requires within { AreWithin limits.now }
     ensures refused { IfOk result (λ o. (A : List Entry) (e : Entry) →
         StandsValid limits.now (state server.old).tree table.now A → IsSeen e attr.now →
-        o ≡ targets.no_size A limits.now e size) }
+        o ≡ first_of (size_tests A limits.now e size)) }
     ensures same { OnOk result ((state server.new).tree ≡ (state server.old).tree) }
     ensures watched { Watched (state server.old) (state server.new) result }
 {
