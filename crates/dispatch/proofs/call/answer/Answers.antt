@@ -28,11 +28,8 @@ procedure-requires-clause-call g c =
 
 pub accept-requires : goal.accept-requires
 accept-requires g c =
-    let is : head_in c.args.call.now ≡ heads.Call c.in-Call.xid c.in-Call.prog c.in-Call.vers c.in-Call.proc c.in-Call.cred c.in-Call.args_at = sym c.read_call.ensures.read ∙ c.in-Call.is in
-    let built = built_call c.args.call.now c.in-Call.xid c.in-Call.prog c.in-Call.vers c.in-Call.proc c.in-Call.cred c.in-Call.args_at is c.requires.built in
-    let kind = built_read c.in-Call.proc (drop c.in-Call.args_at c.args.call.now) c.in-Ok.args (rw (take_rest c.args.call.now c.in-Call.args_at) at c.in-Ok.ensures.all) built.1 in
     let p = c.in_ok-outcome-in-Ok.ensures.performs c.requires.stands.0 c.requires.stands.1 in
-    subst HasSpelling (sym p.result_is) (result_spelled c.requires.stands.0 c.args.limits.now c.in-Call.cred c.args.time (call_of c.in-Ok.args) kind)
+    subst HasSpelling (sym p.result_is) (result_spelled c.args.limits.now c.requires.stands.0 c.requires.stands.1.valid c.in-Call.cred c.args.time (call_of c.in-Ok.args))
 
 pub returns-in-Err-clause-answers : goal.returns-in-Err-clause-answers
 returns-in-Err-clause-answers g c =
