@@ -1,7 +1,9 @@
+pub mod ContentAnswers
+pub mod Contents
+pub mod Limited
 pub mod ListAnswers
 pub mod ListedRows
 pub mod NameOrder
 pub mod ReadAnswers
 pub mod ReadCalls
 pub mod StepLemmas
-pub mod Limited

@@ -17,6 +17,13 @@ use Rattle.conf_map.specs.Stands.{AreWithin, StandValid, StandsValid}
 pub stand_valid : (limits : Limits) (s : Option Tree) (table : ConfTable) (A : List Entry) → AreWithin limits → StandsValid limits s table A → StandValid s table A
 stand_valid limits s table A within sv = record { limits = limits; within = within; valid = sv.valid; stands = sv.stands }
 
+-- the same of a call's arguments
+pub as_called : (limits : Limits) (s : Option Tree) (table : ConfTable) (args : Args) (call : Call) (r : Result NfsResult WrapErr) → call_of args ≡ call →
+    IfOk r (λ x. (A : List Entry) (cred : Cred) (t : Time) → StandsValid limits s table A → x ≡ result_of A limits cred t call) →
+    IfOk r (λ x. (A : List Entry) (cred : Cred) (t : Time) → StandsValid limits s table A → x ≡ result_of A limits cred t (call_of args))
+as_called limits s table args call (Ok x) is h = λ A cred t sv. h A cred t sv ∙ ap (result_of A limits cred t) (sym is)
+as_called limits s table args call (Err e) is h = tt
+
 pub limited : (limits : Limits) (s : Option Tree) (table : ConfTable) (args : Args) (call : Call) (r : Result NfsResult WrapErr) → AreWithin limits → call_of args ≡ call →
     IfOk r (λ x. (A : List Entry) (limits : Limits) (cred : Cred) (t : Time) → StandValid s table A → x ≡ result_of A limits cred t call) →
     IfOk r (λ x. (A : List Entry) (cred : Cred) (t : Time) → StandsValid limits s table A → x ≡ result_of A limits cred t (call_of args))

@@ -8,9 +8,9 @@ use Rattle.nfs2_types.specs.declared.Cred.{Cred}
 use Rattle.nfs2_types.specs.declared.Time.{Time}
 use Rattle.nfs2_types.specs.declared.Stat.{Stat}
 use Rattle.nfs2_types.specs.declared.NfsResult.{NfsResult}
-use Rattle.nfs2_types.specs.declared.NfsResult.TheVariants.{Nothing, Refused, Attr}
+use Rattle.nfs2_types.specs.declared.NfsResult.TheVariants.{Refused, Attr}
 use Rattle.nfs2_types.specs.declared.stat.TheConstants.{NOENT, STALE}
-use Rattle.nfs2_types.specs.Call.{Call, null, get_attr, lookup}
+use Rattle.nfs2_types.specs.Call.{Call, get_attr, lookup}
 use Rattle.nfs2_types.specs.Names.{name_dot, name_dots}
 use Rattle.server_trait.specs.Tree.{Tree}
 use Rattle.server_trait.specs.declared.bench.ConfEntry.{ConfEntry}
@@ -28,11 +28,8 @@ use Rattle.wrap_read.specs.Reads.{is_missing, IsStep}
 
 module _ (A : List Entry) (limits : Limits) (cred : Cred) (t : Time) where
   -- a call that changes nothing leaves the array
-  reads : (call : Call) → first_of (refusals A limits call) ≡ None → changes A cred t call ≡ [] → array_after A limits cred t call ≡ A
+  pub reads : (call : Call) → first_of (refusals A limits call) ≡ None → changes A cred t call ≡ [] → array_after A limits cred t call ≡ A
   reads call none is = answered_array A limits cred t call none ∙ ap (λ cs. changed cs A) is
-
-  pub null_answer : Nothing ≡ result_of A limits cred t null
-  null_answer = sym (answered A limits cred t null refl)
 
   module _ (s : Option Tree) (table : ConfTable) (k : StandValid s table A) (h : List ℕ) where
     pub attr_stale : None ≡ located table.rows.items h → Refused STALE ≡ result_of A limits cred t (get_attr h)

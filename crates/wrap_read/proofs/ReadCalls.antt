@@ -1,12 +1,29 @@
--- Which calls read.
-use Rattle.std.proofs.Common.{◌≡◌, true, false, refl}
+-- What is answered to the calls that have no result.
+use Rattle.std.proofs.Common.{◌≡◌, true, false, List, refl, sym}
+use Rattle.nfs2_types.specs.declared.Limits.{Limits}
+use Rattle.nfs2_types.specs.declared.Cred.{Cred}
+use Rattle.nfs2_types.specs.declared.Time.{Time}
+use Rattle.nfs2_types.specs.declared.NfsResult.TheVariants.{Nothing}
 use Rattle.nfs2_types.specs.declared.args.Args.{Args}
-use Rattle.nfs2_types.specs.Call.{null, call_of}
+use Rattle.nfs2_types.specs.Call.{null, root, write_cache, call_of}
+use Rattle.abs_model.specs.declared.entry.Entry.{Entry}
+use Rattle.abs_model.specs.Machine.{result_of}
+use Rattle.conf_map.proofs.Answered.{answered}
 use Rattle.wrap_read.specs.Reads.{is_read_call}
 
--- a call that reads, and is none of the others, is NULL
-pub is_null_call : (a : Args) → is_read_call (call_of a) ≡ true → ((node : _) → a ≡ Args.GetAttr node → ⊥) → ((dir name : _) → a ≡ Args.Lookup dir name → ⊥) → call_of a ≡ null
-is_null_call Args.Null reads not_attr not_lookup = refl
-is_null_call (Args.GetAttr node) reads not_attr not_lookup = absurd (not_attr node refl)
-is_null_call (Args.Lookup dir name) reads not_attr not_lookup = absurd (not_lookup dir name refl)
-is_null_call _ reads not_attr not_lookup = absurd (let bad : false ≡ true = reads in cc)
+-- a call that reads, and is none of the others, has no result
+module _ (A : List Entry) (limits : Limits) (cred : Cred) (t : Time) where
+  pub nothing_answer : (a : Args) → is_read_call (call_of a) ≡ true → ((node : _) → a ≡ Args.GetAttr node → ⊥) → ((dir name : _) → a ≡ Args.Lookup dir name → ⊥) →
+      ((node : _) → a ≡ Args.ReadLink node → ⊥) → ((file offset count : _) → a ≡ Args.Read file offset count → ⊥) →
+      ((dir cookie count : _) → a ≡ Args.ReadDir dir cookie count → ⊥) → ((node : _) → a ≡ Args.StatFs node → ⊥) →
+      Nothing ≡ result_of A limits cred t (call_of a)
+  nothing_answer Args.Null reads attr look link file list space = sym (answered A limits cred t null refl)
+  nothing_answer Args.Root reads attr look link file list space = sym (answered A limits cred t root refl)
+  nothing_answer Args.WriteCache reads attr look link file list space = sym (answered A limits cred t write_cache refl)
+  nothing_answer (Args.GetAttr node) reads attr look link file list space = absurd (attr node refl)
+  nothing_answer (Args.Lookup dir name) reads attr look link file list space = absurd (look dir name refl)
+  nothing_answer (Args.ReadLink node) reads attr look link file list space = absurd (link node refl)
+  nothing_answer (Args.Read from offset count) reads attr look link file list space = absurd (file from offset count refl)
+  nothing_answer (Args.ReadDir dir cookie count) reads attr look link file list space = absurd (list dir cookie count refl)
+  nothing_answer (Args.StatFs node) reads attr look link file list space = absurd (space node refl)
+  nothing_answer _ reads attr look link file list space = absurd (let bad : false ≡ true = reads in cc)

@@ -10,8 +10,11 @@ ghost use Rattle.conf_map.specs.Notice.{Watched};
 ghost use Rattle.conf_map.specs.Stands.{AreWithin, StandsValid};
 ghost use Rattle.wrap_read.specs.Reads.{is_read_call};
 
+use crate::content::{read, read_link};
 use crate::get_attr::get_attr;
 use crate::lookup::lookup;
+use crate::read_dir::read_dir;
+use crate::stat_fs::stat_fs;
 use nfs2_types::{Args, Limits, NfsResult};
 use server_trait::{ConfTable, Srv, WrapErr};
 
@@ -35,6 +38,14 @@ pub fn read_proc(
     match *args {
         Args::GetAttr { node } => get_attr(server, table, &node),
         Args::Lookup { dir, name } => lookup(server, table, &dir, name),
+        Args::ReadLink { node } => read_link(server, table, &node),
+        Args::Read {
+            file,
+            offset,
+            count,
+        } => read(server, table, &file, offset, count),
+        Args::ReadDir { dir, cookie, count } => read_dir(server, table, &dir, cookie, count),
+        Args::StatFs { node } => stat_fs(server, table, limits, &node),
         _ => Ok(NfsResult::Nothing),
     }
 }

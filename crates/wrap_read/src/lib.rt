@@ -1,9 +1,11 @@
-//! Procedures that read: NULL, GETATTR, LOOKUP and READDIR of NFS version 2 on a server with its table.
+//! Procedures of NFS version 2 that read, on a server with its table.
 #![tactic(auto)]
 
 mod calls;
+mod content;
 mod get_attr;
 mod lookup;
 mod read_dir;
+mod stat_fs;
 
 pub use calls::read_proc;
