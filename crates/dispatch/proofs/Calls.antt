@@ -104,15 +104,16 @@ if_ok_map P Q (Err e) f h = tt
 
 -- PROCEDURES
 
-pub names_performs : (M : Type 0) (told_of : M → List ℕ) (noticed : M → List Entry → ℕ → M → Type 0) (limits : Limits) (cred : Cred) (t : Time) (call : Call) (s0 tree : Option Tree) (table0 table : ConfTable) (old new : M)
+-- a procedure that changes what stands: its clauses together
+pub changes_perform : (M : Type 0) (told_of : M → List ℕ) (noticed : M → List Entry → ℕ → M → Type 0) (limits : Limits) (cred : Cred) (t : Time) (call : Call) (s0 tree : Option Tree) (table0 table : ConfTable) (old new : M)
     (r : Result NfsResult WrapErr) →
     IfOk r (λ x. (A : List Entry) → StandsValid limits s0 table0 A → x ≡ machine.result_of A limits cred t call) →
     OnOk r ((A : List Entry) → StandsValid limits s0 table0 A → Stands tree table (machine.array_after A limits cred t call)) →
     OnOk r ((A : List Entry) → StandsValid limits s0 table0 A → told_of new ≡ told_of old ++ machine.told A limits cred t call) →
     OnOk r ((A : List Entry) → StandsValid limits s0 table0 A → NoticedAll noticed A old (machine.told A limits cred t call) new) →
     IfOk r (λ x. (A : List Entry) → StandsValid limits s0 table0 A → Performs told_of noticed limits cred t call A x tree table old new)
-names_performs M told_of noticed limits cred t call s0 tree table0 table old new (Ok x) answers stands told notices = λ A sv. record { result_is = answers A sv; stands = stands A sv; told = told A sv; notices = notices A sv }
-names_performs M told_of noticed limits cred t call s0 tree table0 table old new (Err e) answers stands told notices = tt
+changes_perform M told_of noticed limits cred t call s0 tree table0 table old new (Ok x) answers stands told notices = λ A sv. record { result_is = answers A sv; stands = stands A sv; told = told A sv; notices = notices A sv }
+changes_perform M told_of noticed limits cred t call s0 tree table0 table old new (Err e) answers stands told notices = tt
 
 pub read_performs : (M : Type 0) (told_of : M → List ℕ) (noticed : M → List Entry → ℕ → M → Type 0) (limits : Limits) (cred : Cred) (t : Time) (call : Call) (s0 tree : Option Tree) (table : ConfTable) (m : M)
     (r : Result NfsResult WrapErr) → is_read_call call ≡ true →
@@ -129,10 +130,20 @@ read_performs M told_of noticed limits cred t call s0 tree table m (Ok x) kind a
     }
 read_performs M told_of noticed limits cred t call s0 tree table m (Err e) kind answers same = tt
 
--- what is built and is no MKDIR changes nothing
-pub is_read : (a : Args) → is_built_call (call_of a) ≡ true → ((dir : List ℕ) (name : Bor (List ℕ)) (sattr : Sattr) → a ≡ Args.MkDir dir name sattr → ⊥) → is_read_call (call_of a) ≡ true
-is_read Args.Null h not = refl
-is_read (Args.GetAttr node) h not = refl
-is_read (Args.Lookup dir name) h not = refl
-is_read (Args.MkDir dir name sattr) h not = absurd (not dir name sattr refl)
-is_read _ h not = absurd (let bad : false ≡ true = h in cc)
+-- what is built, and neither writes nor makes a name, changes nothing
+pub is_read : (a : Args) → is_built_call (call_of a) ≡ true → ((node : List ℕ) (sattr : Sattr) → a ≡ Args.SetAttr node sattr → ⊥) →
+    ((file : List ℕ) (offset : ℕ) (bytes : Bor (List ℕ)) → a ≡ Args.Write file offset bytes → ⊥) →
+    ((dir : List ℕ) (name : Bor (List ℕ)) (sattr : Sattr) → a ≡ Args.MkDir dir name sattr → ⊥) → is_read_call (call_of a) ≡ true
+is_read Args.Null h set write make = refl
+is_read Args.Root h set write make = refl
+is_read Args.WriteCache h set write make = refl
+is_read (Args.GetAttr node) h set write make = refl
+is_read (Args.SetAttr node sattr) h set write make = absurd (set node sattr refl)
+is_read (Args.Lookup dir name) h set write make = refl
+is_read (Args.ReadLink node) h set write make = refl
+is_read (Args.Read file offset count) h set write make = refl
+is_read (Args.Write file offset bytes) h set write make = absurd (write file offset bytes refl)
+is_read (Args.MkDir dir name sattr) h set write make = absurd (make dir name sattr refl)
+is_read (Args.ReadDir dir cookie count) h set write make = refl
+is_read (Args.StatFs node) h set write make = refl
+is_read _ h set write make = absurd (let bad : false ≡ true = h in cc)

@@ -42,8 +42,14 @@ no_change A limits cred t call none = ap (λ cs. changed cs A) (no_effect A limi
 
 no_changes : (A : List Entry) (cred : Cred) (t : Time) (call : Call) → is_read_call call ≡ true → changes A cred t call ≡ []
 no_changes A cred t null h = refl
+no_changes A cred t root h = refl
+no_changes A cred t write_cache h = refl
 no_changes A cred t (get_attr node) h = refl
 no_changes A cred t (lookup dir name) h = refl
+no_changes A cred t (read_link node) h = refl
+no_changes A cred t (read file offset count) h = refl
+no_changes A cred t (read_dir dir cookie count) h = refl
+no_changes A cred t (stat_fs node) h = refl
 no_changes A cred t _ h = absurd (let bad : false ≡ true = h in cc)
 
 pub read_array : (A : List Entry) (limits : Limits) (cred : Cred) (t : Time) (call : Call) → is_read_call call ≡ true → array_after A limits cred t call ≡ A

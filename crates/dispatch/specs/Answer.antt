@@ -5,7 +5,7 @@ use Rattle.nfs2_types.specs.declared.Time.{Time}
 use Rattle.nfs2_types.specs.declared.Cred.{Cred}
 use Rattle.nfs2_types.specs.declared.Word.{Word}
 use Rattle.nfs2_types.specs.declared.Word.TheVariants as words
-use Rattle.nfs2_types.specs.Call.{Call, null, get_attr, lookup, make_dir}
+use Rattle.nfs2_types.specs.Call.{Call, null, root, write_cache, get_attr, set_attr, lookup, read_link, read, write, make_dir, read_dir, stat_fs}
 use Rattle.xdr_core.specs.Grammar.{Stop, reads_all}
 use Rattle.rpc_core.specs.declared.CallHead.{CallHead}
 use Rattle.rpc_core.specs.declared.CallHead.TheVariants as heads
@@ -64,8 +64,16 @@ answer A limits t bytes = by_head A limits t bytes (head_in bytes)
 abbrev pub is_built_call : Call → Bool
 is_built_call null = true
 is_built_call (get_attr node) = true
+is_built_call (set_attr node sattr) = true
+is_built_call root = true
 is_built_call (lookup dir name) = true
+is_built_call (read_link node) = true
+is_built_call (read file offset count) = true
+is_built_call write_cache = true
+is_built_call (write file offset bytes) = true
 is_built_call (make_dir dir name sattr) = true
+is_built_call (read_dir dir cookie count) = true
+is_built_call (stat_fs node) = true
 is_built_call _ = false
 
 -- arguments that are not spelled are refused, whatever the procedure

@@ -16,7 +16,18 @@ fn is_built_call(args: &Args) -> bool
 {
     matches!(
         args,
-        Args::Null | Args::GetAttr { .. } | Args::Lookup { .. } | Args::MkDir { .. }
+        Args::Null
+            | Args::Root
+            | Args::WriteCache
+            | Args::GetAttr { .. }
+            | Args::SetAttr { .. }
+            | Args::Lookup { .. }
+            | Args::ReadLink { .. }
+            | Args::Read { .. }
+            | Args::Write { .. }
+            | Args::MkDir { .. }
+            | Args::ReadDir { .. }
+            | Args::StatFs { .. }
     )
 }
 

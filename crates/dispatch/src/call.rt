@@ -21,6 +21,7 @@ use server_trait::{ConfTable, Srv, WrapErr};
 use std::alloc::Global;
 use wrap_names::names_proc;
 use wrap_read::read_proc;
+use wrap_write::write_proc;
 use xdr_core::Writer;
 
 /// The reply that refuses a call.
@@ -64,6 +65,8 @@ fn procedure<M: Modify>(
     ensures watched { Watched (state server.old) (state server.new) result }
 {
     match args {
+        Args::SetAttr { .. } => write_proc(server, table, limits, cred, time, args, saver),
+        Args::Write { .. } => write_proc(server, table, limits, cred, time, args, saver),
         Args::MkDir { .. } => names_proc(server, table, limits, cred, time, args, saver),
         _ => read_proc(server, table, limits, args),
     }

@@ -33,7 +33,8 @@ fn built(
     Ok(())
 }
 
-// RFC 1094, 2.2: NULL 0, GETATTR 1, ROOT 3, LOOKUP 4, REMOVE 10, MKDIR 14, RMDIR 15, STATFS 17.
+// RFC 1094, 2.2: NULL 0, GETATTR 1, SETATTR 2, ROOT 3, LOOKUP 4, READLINK 5, READ 6, WRITECACHE 7, WRITE 8, REMOVE 10,
+// MKDIR 14, RMDIR 15, READDIR 16, STATFS 17.
 #[test]
 fn procedures(rt: HostRuntime) -> Result<(), Fail> {
     let alloc = rt.alloc();
@@ -46,10 +47,29 @@ fn procedures(rt: HostRuntime) -> Result<(), Fail> {
     built(&rt, alloc, &nfs(0), &[], true)?;
     built(&rt, alloc, &nfs(1), &PLACE[..8], true)?;
     built(&rt, alloc, &nfs(4), &PLACE, true)?;
-    built(&rt, alloc, &nfs(3), &[], false)?;
+    built(&rt, alloc, &nfs(3), &[], true)?;
+    built(&rt, alloc, &nfs(5), &PLACE[..8], true)?;
+    built(&rt, alloc, &nfs(7), &[], true)?;
     built(&rt, alloc, &nfs(10), &PLACE, false)?;
     built(&rt, alloc, &nfs(15), &PLACE, false)?;
-    built(&rt, alloc, &nfs(17), &PLACE[..8], false)?;
+    built(&rt, alloc, &nfs(16), &PLACE, true)?;
+    built(&rt, alloc, &nfs(17), &PLACE[..8], true)?;
+    Ok(())
+}
+
+#[test]
+fn procedures_with_more_words(rt: HostRuntime) -> Result<(), Fail> {
+    let alloc = rt.alloc();
+    let file = &PLACE[..8];
+    let head = [2, 0, 2, 100003, 2];
+    for (proc, words) in [(2, 8), (6, 3), (8, 4)] {
+        let zeros = [0; 8];
+        let call = bytes_of(
+            alloc,
+            &[&head, &[proc, 0, 0, 0, 0], file, &zeros[..words]],
+        )?;
+        assert!(rt; is_built(&call), "{proc}");
+    }
     Ok(())
 }
 
