@@ -1,143 +1,191 @@
 -- A server that starts afresh, and one whose node has other attributes.
-use Rattle.std.proofs.Common.{inl, inr, ◌≡◌, ℕ, ◌+◌, ◌<◌, Bool, cond, List, Some, None, IsSome, is_some, Ok, refl, sym, ap, ◌∙◌, subst, arith}
+use Rattle.std.proofs.Common.{inl, inr, ◌≡◌, ℕ, ◌+◌, ◌<◌, Bool, cond, List, [], Some, None, IsSome, is_some, Ok, refl, sym, ap, ◌∙◌, subst, arith}
 use Rattle.std.specs.Option.{option_map}
 use Rattle.std.specs.Ordering.{nat_cmp}
 use Rattle.std.specs.Cmp.Lexicographic.{slice_cmp, nat_list_cmp_total}
 use Rattle.std.specs.FinMap.{get, insert, len, empty, same_map, get-empty, len-insert, len-empty}
-use Rattle.server_trait.specs.Tree.{Tree, Node, ByBytes, NamesOf, node_at, used, used_by, new_node, edited, with_node, with_attr}
+use Rattle.nfs2_types.specs.declared.fattr.Kind.TheVariants.{Dir}
+use Rattle.server_trait.specs.Tree.{Tree, Node, ByBytes, NamesOf, node_at, used, used_by, links, subdirs, names_to, new_node, edited, with_node, with_attr}
 use Rattle.server_trait.specs.Step.{OnlySoft}
 use Rattle.server_trait.specs.Calls.{IsFresh, SetAttr, NodeErr}
 use Rattle.server_trait.specs.declared.server.ServerLimits.{ServerLimits}
-use Rattle.server_trait.proofs.TreeLaws.{some_none, bytes_or_not, get-insert_same, get-insert_other, edited-some, used-edited, used-with_node}
+use Rattle.server_trait.proofs.CountLaws.{links-edited, links-with_node, subdirs-most}
+use Rattle.server_trait.proofs.TreeLaws.{some_none, bytes_or_not, get-insert_same, get-insert_other, edited-some, used-edited, used-with_node, links-none, target_found}
 use Rattle.server_trait.proofs.SumLaws.{total-none}
 use Rattle.server_trait.proofs.SoftLaws.{node_soft}
+use Rattle.path_server.specs.Bytes.{Contents, bytes_under}
+use Rattle.path_server.specs.Kept.{Kept, kept_as, full_node, nodes_of, the_tree, tree_of}
 use Rattle.path_server.specs.Nodes.{made_node, set_node}
-use Rattle.path_server.specs.Paths.{Paths, IsSound, serial_bytes, dir_node, names_of, nodes_of, the_tree, tree_of}
+use Rattle.path_server.specs.Paths.{Paths, serial_bytes, names_of}
+use Rattle.path_server.specs.Sound.{IsSound, IsCounted}
 use Rattle.path_server.specs.declared.node.PathNode.{PathNode}
 use Rattle.path_server.proofs.Rows.{bytes_exact}
+use Rattle.path_server.proofs.ContentLaws.{names_to-new}
+use Rattle.path_server.proofs.CountedLaws.{counted_same}
 use Rattle.path_server.proofs.NameLaws.{names_of-none}
-use Rattle.path_server.proofs.NodeLaws.{get-nodes_of, node_at-kept}
+use Rattle.path_server.proofs.NodeLaws.{get-nodes_of, node_at-kept, node_here, kind_at}
 use Rattle.path_server.proofs.Serials.{length-serial_bytes}
 use Rattle.path_server.proofs.CallLaws.{held_tree}
 
--- the nodes after one is put in, at whose handle the names stay
-nodes_put : (kept : ByBytes PathNode) (paths : Paths) (h : List ℕ) (p : PathNode) → nodes_of (insert kept h p) paths ≡ insert (nodes_of kept paths) h (dir_node p (names_of paths h))
-nodes_put kept paths h p = same_map nat_list_cmp_total bytes_exact _ _ (λ q. elim (bytes_or_not q h) as (λ _. get (nodes_of (insert kept h p) paths) q ≡ get (insert (nodes_of kept paths) h (dir_node p (names_of paths h))) q) [
-  | inl same ↦ subst (λ k. get (nodes_of (insert kept h p) paths) k ≡ get (insert (nodes_of kept paths) h (dir_node p (names_of paths h))) k) (sym same)
-      (get-nodes_of (insert kept h p) paths h ∙ ap (option_map (λ x. dir_node x (names_of paths h))) (get-insert_same kept h p) ∙ sym (get-insert_same (nodes_of kept paths) h (dir_node p (names_of paths h))))
-  | inr ne ↦ get-nodes_of (insert kept h p) paths q ∙ ap (option_map (λ x. dir_node x (names_of paths q))) (get-insert_other kept h p q ne)
-      ∙ sym (get-insert_other (nodes_of kept paths) h (dir_node p (names_of paths h)) q ne ∙ get-nodes_of kept paths q)
+-- the nodes after one is put in
+pub nodes_put : (nodes : ByBytes PathNode) (contents : Contents) (paths : Paths) (h : List ℕ) (p : PathNode) → nodes_of (insert nodes h p) contents paths ≡ insert (nodes_of nodes contents paths) h (full_node contents paths h p)
+nodes_put nodes contents paths h p = same_map nat_list_cmp_total bytes_exact _ _ (λ q. elim (bytes_or_not q h) as (λ _. get (nodes_of (insert nodes h p) contents paths) q ≡ get (insert (nodes_of nodes contents paths) h (full_node contents paths h p)) q) [
+  | inl same ↦ subst (λ k. get (nodes_of (insert nodes h p) contents paths) k ≡ get (insert (nodes_of nodes contents paths) h (full_node contents paths h p)) k) (sym same)
+      (get-nodes_of (insert nodes h p) contents paths h ∙ ap (option_map (full_node contents paths h)) (get-insert_same nodes h p) ∙ sym (get-insert_same (nodes_of nodes contents paths) h (full_node contents paths h p)))
+  | inr ne ↦ get-nodes_of (insert nodes h p) contents paths q ∙ ap (option_map (full_node contents paths q)) (get-insert_other nodes h p q ne)
+      ∙ sym (get-insert_other (nodes_of nodes contents paths) h (full_node contents paths h p) q ne ∙ get-nodes_of nodes contents paths q)
 ])
 
 -- A FRESH SERVER
 
-used-none : (root : List ℕ) → used (let bare : Tree = record { root = root; nodes = empty } in bare) ≡ 0
+abbrev bare : List ℕ → Tree
+bare root = record { root = root; nodes = empty }
+
+used-none : (root : List ℕ) → used (bare root) ≡ 0
 unfolding used
 used-none root = total-none nat_list_cmp_total (λ (n : Node). used_by n.content) empty (λ k v at. absurd (some_none at (get-empty (slice_cmp nat_cmp) k)))
 
-module _ (number : ℕ) where
+links-bare : (root q : List ℕ) → links (bare root) q ≡ 0
+links-bare root q = links-none (bare root) q (λ named. let t = target_found (bare root) named.0 named.1 q named.2 in some_none t.is_node (get-empty (slice_cmp nat_cmp) named.0))
+
+module _ (number : ℕ) (contents : Contents) where
   abbrev root : List ℕ
   root = serial_bytes number
 
-  abbrev kept_fresh : ByBytes PathNode
-  kept_fresh = insert empty root (made_node number)
+  abbrev first_node : PathNode
+  first_node = made_node Dir number 0
+
+  abbrev kept_fresh : Kept
+  kept_fresh = kept_as root (insert empty root first_node) contents empty
 
   no_names : names_of empty root ≡ empty
   no_names = names_of-none root (length-serial_bytes number) empty (λ x. get-empty (slice_cmp nat_cmp) _)
 
-  no_nodes : nodes_of empty empty ≡ empty
-  no_nodes = same_map nat_list_cmp_total bytes_exact _ _ (λ q. get-nodes_of empty empty q ∙ ap (option_map (λ x. dir_node x (names_of empty q))) (get-empty (slice_cmp nat_cmp) q) ∙ sym (get-empty (slice_cmp nat_cmp) q))
+  no_nodes : nodes_of empty contents empty ≡ empty
+  no_nodes = same_map nat_list_cmp_total bytes_exact _ _ (λ q. get-nodes_of empty contents empty q ∙ ap (option_map (full_node contents empty q)) (get-empty (slice_cmp nat_cmp) q) ∙ sym (get-empty (slice_cmp nat_cmp) q))
 
   abbrev fresh_tree : Tree
-  fresh_tree = record { root = root; nodes = insert empty root (new_node number (NamesOf empty)) }
+  fresh_tree = with_node (bare root) root (new_node number (NamesOf empty))
 
-  tree_fresh : the_tree root kept_fresh empty ≡ fresh_tree
+  tree_fresh : the_tree kept_fresh ≡ fresh_tree
   tree_fresh = ap (λ (m : ByBytes Node). let t : Tree = record { root = root; nodes = m } in t)
-      (nodes_put empty empty root (made_node number) ∙ ap (λ m. insert (nodes_of empty empty) root (new_node number (NamesOf m))) no_names ∙ ap (λ m. insert m root (new_node number (NamesOf empty))) no_nodes)
+      (nodes_put empty contents empty root first_node ∙ ap (λ m. insert (nodes_of empty contents empty) root (new_node number (NamesOf m))) no_names ∙ ap (λ m. insert m root (new_node number (NamesOf empty))) no_nodes)
 
-  fresh : IsFresh (Some (the_tree root kept_fresh empty))
+  fresh : IsFresh (Some (the_tree kept_fresh))
   fresh = record { root = root; number = number; after = ap Some tree_fresh }
 
-  -- a claim of the root
-  at_root : (P : List ℕ → PathNode → Type 0) → P root (made_node number) → (q : List ℕ) (x : PathNode) → get kept_fresh q ≡ Some x → P q x
-  at_root P h q x e = elim (bytes_or_not q root) as (λ _. P q x) [
-    | inl same ↦ subst (λ k. P k x) (sym same) (subst (P root) (let f : Some (made_node number) ≡ Some x = sym (get-insert_same empty root (made_node number)) ∙ ap (get kept_fresh) (sym same) ∙ e in let one : made_node number ≡ x = cc in one) h)
-    | inr ne ↦ absurd (some_none e (get-insert_other empty root (made_node number) q ne ∙ get-empty (slice_cmp nat_cmp) q))
+  at_root : (P : List ℕ → PathNode → Type 0) → P root first_node → (q : List ℕ) (x : PathNode) → get kept_fresh.nodes q ≡ Some x → P q x
+  at_root P here q x e = elim (bytes_or_not q root) as (λ _. P q x) [
+    | inl same ↦ subst (λ k. P k x) (sym same) (subst (P root) (let f : Some first_node ≡ Some x = sym (get-insert_same empty root first_node) ∙ ap (get kept_fresh.nodes) (sym same) ∙ e in let one : first_node ≡ x = cc in one) here)
+    | inr ne ↦ absurd (some_none (sym (get-insert_other empty root first_node q ne) ∙ e) (get-empty (slice_cmp nat_cmp) q))
   ]
 
-  used_fresh : used (the_tree root kept_fresh empty) ≡ 0
+  used_fresh : used (the_tree kept_fresh) ≡ 0
   used_fresh =
-      let bare : Tree = record { root = root; nodes = empty } in
-      let same : used (the_tree root kept_fresh empty) ≡ used (with_node bare root (new_node number (NamesOf empty))) = ap used tree_fresh in
-      let more = used-with_node bare root (new_node number (NamesOf empty)) (get-empty (slice_cmp nat_cmp) root) in
+      let same : used (the_tree kept_fresh) ≡ used fresh_tree = ap used tree_fresh in
+      let more = used-with_node (bare root) root (new_node number (NamesOf empty)) (get-empty (slice_cmp nat_cmp) root) in
       let none = len-empty (slice_cmp nat_cmp) (List ℕ) in
       let zero_used = used-none root in
       omega (arith, same, more, none, zero_used)
 
-  sound_fresh : (limits : ServerLimits) → IsSound limits (number + 1) 0 root kept_fresh empty
+  links_fresh : links (the_tree kept_fresh) root ≡ 0
+  links_fresh =
+      let same : links (the_tree kept_fresh) root ≡ links fresh_tree root = ap (λ t. links t root) tree_fresh in
+      let more = links-with_node (bare root) root (new_node number (NamesOf empty)) root (get-empty (slice_cmp nat_cmp) root) in
+      let none = names_to-new Dir [] root in
+      let before = links-bare root root in
+      omega (arith, same, more, none, before)
+
+  size_fresh : len (names_of empty root) ≡ 0
+  size_fresh = ap len no_names ∙ len-empty (slice_cmp nat_cmp) (List ℕ)
+
+  counted_fresh : IsCounted kept_fresh root first_node
+  counted_fresh = record {
+    names = sym size_fresh;
+    subdirs = let most = subdirs-most (the_tree kept_fresh) (names_of empty root) in let size = size_fresh in omega (arith, most, size);
+    links = sym links_fresh;
+  }
+
+  sound_fresh : (limits : ServerLimits) → IsSound limits (number + 1) 0 kept_fresh
   sound_fresh limits = record {
     serials = at_root (λ q x. (q ≡ serial_bytes x.number) × (x.number < number + 1)) (refl, omega arith);
     named = λ dir name h fits at. absurd (some_none at (get-empty (slice_cmp nat_cmp) _));
-    counted = at_root (λ q x. x.names ≡ len (names_of empty q)) (sym (ap len no_names ∙ len-empty (slice_cmp nat_cmp) (List ℕ)));
+    counted = at_root (IsCounted kept_fresh) counted_fresh;
     bytes_used = sym used_fresh;
     bytes_most = omega arith;
-    nodes_most = let one : len kept_fresh ≡ 1 = len-insert nat_list_cmp_total empty root (made_node number) ∙ ap (λ o. cond (is_some o) (len (empty {X = PathNode} {R = slice_cmp nat_cmp})) (len (empty {X = PathNode} {R = slice_cmp nat_cmp}) + 1)) (get-empty (slice_cmp nat_cmp) root) ∙ ap (λ n. n + 1) (len-empty (slice_cmp nat_cmp) PathNode) in omega (arith, one);
+    nodes_most = let one : len kept_fresh.nodes ≡ 1 = len-insert nat_list_cmp_total empty root first_node ∙ ap (λ o. cond (is_some o) (len (empty {X = PathNode} {R = slice_cmp nat_cmp})) (len (empty {X = PathNode} {R = slice_cmp nat_cmp}) + 1)) (get-empty (slice_cmp nat_cmp) root) ∙ ap (λ n. n + 1) (len-empty (slice_cmp nat_cmp) PathNode) in omega (arith, one);
   }
 
 -- the same, of what a server came to
-module _ (number : ℕ) (root : List ℕ) (kept : ByBytes PathNode) (paths : Paths) (is_root : root ≡ serial_bytes number) (is_kept : kept ≡ insert empty root (made_node number)) (is_paths : paths ≡ empty) where
-  pub fresh_after : IsFresh (Some (the_tree root kept paths))
-  fresh_after = rw (is_kept, is_paths, is_root) (fresh number)
+module _ (number : ℕ) (root : List ℕ) (nodes : ByBytes PathNode) (contents : Contents) (paths : Paths) (is_root : root ≡ serial_bytes number) (is_nodes : nodes ≡ insert empty root (made_node Dir number 0)) (is_paths : paths ≡ empty) where
+  pub fresh_after : IsFresh (Some (the_tree (kept_as root nodes contents paths)))
+  fresh_after = rw (is_nodes, is_paths, is_root) (fresh number contents)
 
-  pub sound_started : (limits : ServerLimits) (next : ℕ) → next ≡ number + 1 → IsSound limits next 0 root kept paths
-  sound_started limits next is_next = rw (is_kept, is_paths, is_root, is_next) (sound_fresh number limits)
+  pub sound_started : (limits : ServerLimits) (next : ℕ) → next ≡ number + 1 → IsSound limits next 0 (kept_as root nodes contents paths)
+  sound_started limits next is_next = rw (is_nodes, is_paths, is_root, is_next) (sound_fresh number contents limits)
 
 -- OTHER ATTRIBUTES
 
-module _ (limits : ServerLimits) (next bytes : ℕ) (root : List ℕ) (kept : ByBytes PathNode) (paths : Paths) (h : List ℕ) (p : PathNode) (mode uid gid : ℕ) (is : get kept h ≡ Some p) where
+module _ (limits : ServerLimits) (next bytes : ℕ) (k : Kept) (h : List ℕ) (p : PathNode) (mode uid gid : ℕ) (is : get k.nodes h ≡ Some p) where
   abbrev changed : PathNode
   changed = set_node mode uid gid p
 
   abbrev now : Tree
-  now = the_tree root kept paths
+  now = the_tree k
 
-  at_now : node_at now h ≡ Some (dir_node p (names_of paths h))
-  at_now = node_at-kept root kept paths h p is
+  abbrev kept_set : Kept
+  kept_set = kept_as k.root (insert k.nodes h changed) k.contents k.paths
 
-  tree_set : the_tree root (insert kept h changed) paths ≡ edited now h (with_attr mode uid gid)
-  tree_set = ap (λ (m : ByBytes Node). let t : Tree = record { root = root; nodes = m } in t) (nodes_put kept paths h changed) ∙ sym (edited-some now h (with_attr mode uid gid) (dir_node p (names_of paths h)) at_now)
+  at_now : node_at now h ≡ Some (node_here k h p)
+  at_now = node_at-kept k h p is
 
-  by_place : (P : List ℕ → PathNode → Type 0) → P h changed → ((q : List ℕ) (x : PathNode) → get kept q ≡ Some x → P q x) → (q : List ℕ) (x : PathNode) → get (insert kept h changed) q ≡ Some x → P q x
+  tree_set : the_tree kept_set ≡ edited now h (with_attr mode uid gid)
+  tree_set = ap (λ (m : ByBytes Node). let t : Tree = record { root = k.root; nodes = m } in t) (nodes_put k.nodes k.contents k.paths h changed) ∙ sym (edited-some now h (with_attr mode uid gid) (node_here k h p) at_now)
+
+  by_place : (P : List ℕ → PathNode → Type 0) → P h changed → ((q : List ℕ) (x : PathNode) → get k.nodes q ≡ Some x → P q x) → (q : List ℕ) (x : PathNode) → get (insert k.nodes h changed) q ≡ Some x → P q x
   by_place P here other q x e = elim (bytes_or_not q h) as (λ _. P q x) [
-    | inl same ↦ subst (λ k. P k x) (sym same) (subst (P h) (let f : Some changed ≡ Some x = sym (get-insert_same kept h changed) ∙ ap (get (insert kept h changed)) (sym same) ∙ e in let one : changed ≡ x = cc in one) here)
-    | inr ne ↦ other q x (sym (get-insert_other kept h changed q ne) ∙ e)
+    | inl same ↦ subst (λ k. P k x) (sym same) (subst (P h) (let f : Some changed ≡ Some x = sym (get-insert_same k.nodes h changed) ∙ ap (get (insert k.nodes h changed)) (sym same) ∙ e in let one : changed ≡ x = cc in one) here)
+    | inr ne ↦ other q x (sym (get-insert_other k.nodes h changed q ne) ∙ e)
   ]
 
-  grows : (q : List ℕ) → IsSome (get kept q) → IsSome (get (insert kept h changed) q)
-  grows q some = elim (bytes_or_not q h) as (λ _. IsSome (get (insert kept h changed) q)) [
-    | inl same ↦ ap is_some (ap (get (insert kept h changed)) same ∙ get-insert_same kept h changed)
-    | inr ne ↦ ap is_some (get-insert_other kept h changed q ne) ∙ some
+  grows : (q : List ℕ) → IsSome (get k.nodes q) → IsSome (get (insert k.nodes h changed) q)
+  grows q some = elim (bytes_or_not q h) as (λ _. IsSome (get (insert k.nodes h changed) q)) [
+    | inl same ↦ ap is_some (ap (get (insert k.nodes h changed)) same ∙ get-insert_same k.nodes h changed)
+    | inr ne ↦ ap is_some (get-insert_other k.nodes h changed q ne) ∙ some
   ]
 
-  pub sound_set : IsSound limits next bytes root kept paths → IsSound limits next bytes root (insert kept h changed) paths
+  kinds_set : (q : List ℕ) → kind_at kept_set q ≡ kind_at k q
+  kinds_set q = elim (bytes_or_not q h) as (λ _. kind_at kept_set q ≡ kind_at k q) [
+    | inl same ↦ ap (option_map (λ (p : PathNode). p.kind)) (ap (get (insert k.nodes h changed)) same ∙ get-insert_same k.nodes h changed) ∙ sym (ap (option_map (λ (p : PathNode). p.kind)) (ap (get k.nodes) same ∙ is))
+    | inr ne ↦ ap (option_map (λ (p : PathNode). p.kind)) (get-insert_other k.nodes h changed q ne)
+  ]
+
+  links_set : (q : List ℕ) → links (the_tree kept_set) q ≡ links now q
+  links_set q =
+      let same : links (the_tree kept_set) q ≡ links (edited now h (with_attr mode uid gid)) q = ap (λ t. links t q) tree_set in
+      let change = links-edited now h (with_attr mode uid gid) (node_here k h p) q at_now in
+      omega (arith, same, change)
+
+  pub sound_set : IsSound limits next bytes k → IsSound limits next bytes kept_set
   sound_set sound = record {
     serials = by_place (λ q x. (q ≡ serial_bytes x.number) × (x.number < next)) (sound.serials h p is) sound.serials;
     named = λ dir name x fits at. let both = sound.named dir name x fits at in (grows dir both.0, grows x both.1);
-    counted = by_place (λ q x. x.names ≡ len (names_of paths q)) (sound.counted h p is) sound.counted;
+    counted = by_place (IsCounted kept_set)
+        (counted_same k kept_set h p changed refl kinds_set (links_set h) refl refl refl (sound.counted h p is))
+        (λ q x at. counted_same k kept_set q x x refl kinds_set (links_set q) refl refl refl (sound.counted q x at));
     bytes_used =
-        let same : used (the_tree root (insert kept h changed) paths) ≡ used (edited now h (with_attr mode uid gid)) = ap used tree_set in
-        let change = used-edited now h (with_attr mode uid gid) (dir_node p (names_of paths h)) at_now in
+        let same : used (the_tree kept_set) ≡ used (edited now h (with_attr mode uid gid)) = ap used tree_set in
+        let change = used-edited now h (with_attr mode uid gid) (node_here k h p) at_now in
         let all = sound.bytes_used in
         omega (arith, same, change, all);
     bytes_most = sound.bytes_most;
-    nodes_most = let one : len (insert kept h changed) ≡ len kept = len-insert nat_list_cmp_total kept h changed ∙ ap (λ o. cond (is_some o) (len kept) (len kept + 1)) is in let most = sound.nodes_most in omega (arith, one, most);
+    nodes_most = let one : len (insert k.nodes h changed) ≡ len k.nodes = len-insert nat_list_cmp_total k.nodes h changed ∙ ap (λ o. cond (is_some o) (len k.nodes) (len k.nodes + 1)) is in let most = sound.nodes_most in omega (arith, one, most);
   }
 
-  pub set_attr-ok : (held : Bool) → SetAttr (record { tree = tree_of held root kept paths; limits = limits; faults = 0 }) h mode uid gid (Ok tt)
-      (record { tree = tree_of held root (insert kept h changed) paths; limits = limits; faults = 0 })
+  pub set_attr-ok : (held : Bool) → SetAttr (record { tree = tree_of held k; limits = limits; faults = 0 }) h mode uid gid (Ok tt) (record { tree = tree_of held kept_set; limits = limits; faults = 0 })
   set_attr-ok held = record {
-    tree = held_tree held now (λ t. (tree_of held root (insert kept h changed) paths ≡ Some (edited t h (with_attr mode uid gid))) × OnlySoft (NodeErr h t)) (λ there.
-        (ap (λ b. cond b (Some (the_tree root (insert kept h changed) paths)) None) there ∙ ap Some tree_set, node_soft now h (dir_node p (names_of paths h)) at_now));
+    tree = held_tree held now (λ t. (tree_of held kept_set ≡ Some (edited t h (with_attr mode uid gid))) × OnlySoft (NodeErr h t)) (λ there.
+        (ap (λ b. cond b (Some (the_tree kept_set)) None) there ∙ ap Some tree_set, node_soft now h (node_here k h p) at_now));
     limits = refl;
     faults = refl;
   }

@@ -1,5 +1,7 @@
 pub mod CallLaws
 pub mod ChangeLaws
+pub mod ContentLaws
+pub mod CountedLaws
 pub mod Keys
 pub mod MakeLaws
 pub mod NameLaws

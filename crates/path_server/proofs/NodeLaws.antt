@@ -1,20 +1,23 @@
 -- The nodes of the tree, from what is kept.
-use Rattle.std.proofs.Common.{◌≡◌, ℕ, ◌+◌, Bool, true, false, cond, ◌&&◌, List, [], ◌∷◌, map, length, Some, None, is_some, refl, sym, ap, ◌∙◌, add-one, arith}
-use Rattle.std.specs.Prelude.{T, not}
+use Rattle.std.proofs.Common.{◌≡◌, ℕ, ◌+◌, Bool, true, false, cond, ◌&&◌, List, [], ◌∷◌, map, length, Option, Some, None, is_some, refl, sym, ap, ◌∙◌, add-one, arith}
+use Rattle.std.specs.Prelude.{T}
 use Rattle.std.specs.declared.cmp.Ordering.{Ordering}
 use Rattle.std.specs.declared.cmp.Ordering.TheVariants.{Less, Equal, Greater}
-use Rattle.std.specs.Option.{option_map}
+use Rattle.std.specs.Option.{option_map, option_and_then}
 use Rattle.std.specs.List.{AllByRecursion}
 use Rattle.std.specs.List.Sorted.{IsStrictlySortedBy}
 use Rattle.std.specs.Ordering.{nat_cmp, is_eq, is_lt}
 use Rattle.std.specs.Cmp.Lexicographic.{slice_cmp, nat_list_cmp_total}
 use Rattle.std.specs.FinMap.{FinMap, find, get, len, entries, from_entries, is_sorted, entries_sorted, get-entries, get-from_entries, len-entries, len-empty, len-insert}
 use Rattle.std.specs.FinMap.Entries.{below_all}
-use Rattle.server_trait.specs.Sums.{sum_values, total}
-use Rattle.server_trait.specs.Tree.{Tree, Node, Names, ByBytes, node_at, is_dir_at, one_if, subdirs}
-use Rattle.server_trait.proofs.SumLaws.{total-none}
+use Rattle.server_trait.specs.Tree.{Tree, Node, Names, ByBytes, node_at, names_in, is_dir_at}
 use Rattle.server_trait.proofs.TreeLaws.{same-keys}
-use Rattle.path_server.specs.Paths.{Paths, names_of, dir_node, nodes_of, the_tree}
+use Rattle.nfs2_types.specs.declared.fattr.Kind.{Kind}
+use Rattle.path_server.specs.Nodes.{is_dir}
+use Rattle.path_server.specs.Bytes.{Contents, bytes_under}
+use Rattle.path_server.specs.Kept.{Kept, full_node, nodes_of, the_tree}
+use Rattle.path_server.specs.Paths.{Paths, names_of}
+use Rattle.path_server.proofs.ContentLaws.{has_names}
 use Rattle.path_server.specs.declared.node.PathNode.{PathNode}
 
 -- HOW MANY
@@ -51,10 +54,19 @@ module _ {A B : Type 0} (f : List ℕ → A → B) where
       ∙ ap (λ o. cond (is_some o) (len m) (len m + 1)) (get-from_entries nat_list_cmp_total (map (λ e. (e.0, f e.0 e.1)) es) e.0 ∙ find_below e.0 es (both_first _ (is_sorted (slice_cmp nat_cmp) es) h))
       ∙ ap (λ n. n + 1) (len-mapped es (both_second (below_all (slice_cmp nat_cmp) e.0 es) _ h)) ∙ add-one _
 
+  find-mapped : (es : List (List ℕ × A)) (h : List ℕ) → find (slice_cmp nat_cmp) h (map (λ e. (e.0, f e.0 e.1)) es) ≡ option_map (f h) (find (slice_cmp nat_cmp) h es)
+  find-mapped [] h = refl
+  find-mapped (e ∷ es) h =
+      elim (is_eq (slice_cmp nat_cmp h e.0)) as (λ b. is_eq (slice_cmp nat_cmp h e.0) ≡ b →
+      cond b (Some (f e.0 e.1)) (find (slice_cmp nat_cmp) h (map (λ e. (e.0, f e.0 e.1)) es)) ≡ option_map (f h) (cond b (Some e.1) (find (slice_cmp nat_cmp) h es))) [
+        | true ↦ λ t. ap (λ k. Some (f k e.1)) (sym (same-keys h e.0 t))
+        | false ↦ λ _. find-mapped es h
+      ] refl
+
 -- the tree has as many nodes as are kept
-pub len-nodes_of : (kept : ByBytes PathNode) (paths : Paths) → len (nodes_of kept paths) ≡ len kept
+pub len-nodes_of : (nodes : ByBytes PathNode) (contents : Contents) (paths : Paths) → len (nodes_of nodes contents paths) ≡ len nodes
 unfolding nodes_of
-len-nodes_of kept paths = len-mapped (λ h p. dir_node p (names_of paths h)) (entries kept) (entries_sorted kept) ∙ sym (len-entries kept)
+len-nodes_of nodes contents paths = len-mapped (full_node contents paths) (entries nodes) (entries_sorted nodes) ∙ sym (len-entries nodes)
 
 module _ {A : Type 0} where
   all_below : (x : List ℕ) (es : List (List ℕ × A)) → AllByRecursion (λ y. slice_cmp nat_cmp x y ≡ Less) (map (λ e. e.0) es) → T (below_all (slice_cmp nat_cmp) x es)
@@ -81,56 +93,47 @@ module _ {A : Type 0} where
 
 -- WHICH
 
-find-nodes : (paths : Paths) (es : List (List ℕ × PathNode)) (h : List ℕ) →
-    find (slice_cmp nat_cmp) h (map (λ e. (e.0, dir_node e.1 (names_of paths e.0))) es) ≡ option_map (λ p. dir_node p (names_of paths h)) (find (slice_cmp nat_cmp) h es)
-find-nodes paths [] h = refl
-find-nodes paths (e ∷ es) h =
-    elim (is_eq (slice_cmp nat_cmp h e.0)) as (λ b. is_eq (slice_cmp nat_cmp h e.0) ≡ b →
-    cond b (Some (dir_node e.1 (names_of paths e.0))) (find (slice_cmp nat_cmp) h (map (λ e. (e.0, dir_node e.1 (names_of paths e.0))) es))
-    ≡ option_map (λ p. dir_node p (names_of paths h)) (cond b (Some e.1) (find (slice_cmp nat_cmp) h es))) [
-      | true ↦ λ t. ap (λ k. Some (dir_node e.1 (names_of paths k))) (sym (same-keys h e.0 t))
-      | false ↦ λ _. find-nodes paths es h
-    ] refl
-
 -- what the tree has under a handle
-pub get-nodes_of : (kept : ByBytes PathNode) (paths : Paths) (h : List ℕ) → get (nodes_of kept paths) h ≡ option_map (λ p. dir_node p (names_of paths h)) (get kept h)
+pub get-nodes_of : (nodes : ByBytes PathNode) (contents : Contents) (paths : Paths) (h : List ℕ) → get (nodes_of nodes contents paths) h ≡ option_map (full_node contents paths h) (get nodes h)
 unfolding nodes_of
-get-nodes_of kept paths h = get-from_entries nat_list_cmp_total _ h ∙ find-nodes paths (entries kept) h ∙ ap (option_map (λ p. dir_node p (names_of paths h))) (sym (get-entries kept h))
+get-nodes_of nodes contents paths h = get-from_entries nat_list_cmp_total _ h ∙ find-mapped (full_node contents paths) (entries nodes) h ∙ ap (option_map (full_node contents paths h)) (sym (get-entries nodes h))
 
-module _ (root : List ℕ) (kept : ByBytes PathNode) (paths : Paths) where
-  pub node_at-kept : (h : List ℕ) (p : PathNode) → get kept h ≡ Some p → node_at (the_tree root kept paths) h ≡ Some (dir_node p (names_of paths h))
-  node_at-kept h p e = get-nodes_of kept paths h ∙ ap (option_map (λ p. dir_node p (names_of paths h))) e
+abbrev has : Option Names → Bool
+has o = elim o as (λ _. Bool) [ None ↦ false | Some m ↦ true ]
 
-  pub node_at-none : (h : List ℕ) → get kept h ≡ None → node_at (the_tree root kept paths) h ≡ None
-  node_at-none h e = get-nodes_of kept paths h ∙ ap (option_map (λ p. dir_node p (names_of paths h))) e
+abbrev pub is_dir_kind : Option Kind → Bool
+is_dir_kind o = elim o as (λ _. Bool) [ None ↦ false | Some kind ↦ is_dir kind ]
+
+module _ (k : Kept) where
+  abbrev pub node_here : List ℕ → PathNode → Node
+  node_here h p = full_node k.contents k.paths h p
+
+  pub node_at-kept : (h : List ℕ) (p : PathNode) → get k.nodes h ≡ Some p → node_at (the_tree k) h ≡ Some (node_here h p)
+  node_at-kept h p e = get-nodes_of k.nodes k.contents k.paths h ∙ ap (option_map (node_here h)) e
+
+  pub node_at-none : (h : List ℕ) → get k.nodes h ≡ None → node_at (the_tree k) h ≡ None
+  node_at-none h e = get-nodes_of k.nodes k.contents k.paths h ∙ ap (option_map (node_here h)) e
 
   -- a kept node, from one that the tree has
-  pub kept-node_at : (h : List ℕ) (n : Node) → node_at (the_tree root kept paths) h ≡ Some n → (p : PathNode) × (get kept h ≡ Some p) × (n.number ≡ p.number)
+  pub kept-node_at : (h : List ℕ) (n : Node) → node_at (the_tree k) h ≡ Some n → (p : PathNode) × (get k.nodes h ≡ Some p) × (n ≡ node_here h p)
   kept-node_at h n e =
-      elim (get kept h) as (λ o. option_map (λ p. dir_node p (names_of paths h)) o ≡ Some n → (p : PathNode) × (o ≡ Some p) × (n.number ≡ p.number)) [
+      elim (get k.nodes h) as (λ o. option_map (node_here h) o ≡ Some n → (p : PathNode) × (o ≡ Some p) × (n ≡ node_here h p)) [
         | None ↦ λ no. absurd (let bad : None ≡ Some n = no in cc)
-        | Some p ↦ λ is. (p, refl, ap (λ (x : Node). x.number) (let f : Some (dir_node p (names_of paths h)) ≡ Some n = is in let same : n ≡ dir_node p (names_of paths h) = cc in same))
-      ] (sym (get-nodes_of kept paths h) ∙ e)
+        | Some p ↦ λ is. (p, refl, (let f : Some (node_here h p) ≡ Some n = is in let same : n ≡ node_here h p = cc in same))
+      ] (sym (get-nodes_of k.nodes k.contents k.paths h) ∙ e)
 
--- SUBDIRECTORIES
+  -- DIRECTORIES
 
--- those that pass a test and those that do not
-sum_split : {X : Type 0} (f : X → Bool) (es : List (List ℕ × X)) → sum_values (λ x. one_if (f x)) es + sum_values (λ x. one_if (not (f x))) es ≡ length es
-sum_split f [] = refl
-sum_split f (e ∷ es) =
-    let rest = sum_split f es in
-    let here = one_of (f e.1) in
-    omega (arith, rest, here)
-  where
-    one_of : (b : Bool) → one_if b + one_if (not b) ≡ 1
-    one_of true = refl
-    one_of false = refl
+  abbrev pub kind_at : List ℕ → Option Kind
+  kind_at h = option_map (λ (p : PathNode). p.kind) (get k.nodes h)
 
--- where each name leads to a directory, all count
-pub subdirs-all : (t : Tree) (m : Names) → ((name h : List ℕ) → get m name ≡ Some h → is_dir_at t h ≡ true) → subdirs t m ≡ len m
-unfolding subdirs total
-subdirs-all t m all =
-    let split = sum_split (is_dir_at t) (entries m) in
-    let none = total-none nat_list_cmp_total (λ h. one_if (not (is_dir_at t h))) m (λ name h is. ap (λ b. one_if (not b)) (all name h is)) in
-    let size = len-entries m in
-    omega (arith, split, none, size)
+  pub is_dir_at-kind : (h : List ℕ) → is_dir_at (the_tree k) h ≡ is_dir_kind (kind_at h)
+  is_dir_at-kind h =
+      elim (get k.nodes h) as (λ o. get k.nodes h ≡ o → is_dir_at (the_tree k) h ≡ is_dir_kind (option_map (λ (p : PathNode). p.kind) o)) [
+        | None ↦ λ e. ap (λ o. has (option_and_then (λ (n : Node). names_in n.content) o)) (node_at-none h e)
+        | Some p ↦ λ e. ap (λ o. has (option_and_then (λ (n : Node). names_in n.content) o)) (node_at-kept h p e) ∙ has_names p.kind (bytes_under k.contents h) (names_of k.paths h)
+      ] refl
+
+-- where the kinds are the same, so are the directories
+pub same_dirs : (k l : Kept) (h : List ℕ) → kind_at k h ≡ kind_at l h → is_dir_at (the_tree k) h ≡ is_dir_at (the_tree l) h
+same_dirs k l h same = is_dir_at-kind k h ∙ ap is_dir_kind same ∙ sym (is_dir_at-kind l h)

@@ -1,6 +1,7 @@
 -- The rows of a map from byte strings, read as a `FinMap`.
 use Rattle.std.proofs.Common.{◌≡◌, ℕ, List, [], ◌∷◌, map, cond, true, false, Option, Some, None, is_some, Result, Ok, Err, OnOk, OnErr, refl, sym, ap, ◌∙◌}
-use Rattle.std.specs.Prelude.{Vec}
+use Rattle.std.specs.Prelude.{Vec, unwrap_or}
+use Rattle.std.specs.Option.{option_map}
 use Rattle.std.specs.declared.alloc.Global.{Global}
 use Rattle.std.specs.declared.cmp.Ordering.{Ordering}
 use Rattle.std.specs.declared.cmp.Ordering.TheVariants.{Less, Equal, Greater}
@@ -11,6 +12,7 @@ use Rattle.std.specs.Map.{lookup}
 use Rattle.std.specs.FinMap.{FinMap, IsAntisymmetric, find, put, get, insert, empty, from_entries, same_map, get-from_entries, get-insert, slice_cmp-IsAntisymmetric, nat_cmp-IsAntisymmetric}
 use Rattle.std.specs.FinMap.Entries.{by_order, find-put}
 use Rattle.server_trait.proofs.SoftLaws.{some_of}
+use Rattle.path_server.specs.Bytes.{bytes_under}
 
 pub bytes_exact : IsAntisymmetric (slice_cmp nat_cmp)
 bytes_exact = slice_cmp-IsAntisymmetric nat_cmp-IsAntisymmetric
@@ -67,6 +69,10 @@ pub cannot_fail : {A E : Type 0} (r : Result A E) (P Q : Type 0) → OnOk r P �
 cannot_fail (Ok x) P Q p q n = p
 cannot_fail (Err e) P Q p q n = absurd (n q)
 
+pub on_ok : {A E : Type 0} (r : Result A E) (P Q : Type 0) → (P → Q) → OnOk r P → OnOk r Q
+on_ok (Ok x) P Q f p = f p
+on_ok (Err e) P Q f p = p
+
 -- ROWS WHOSE KEYS ARE VECTORS
 
 abbrev pub row : Vec ℕ Global × List ℕ → List ℕ × List ℕ
@@ -96,3 +102,38 @@ pub insert-vec_rows : (es fs : List (Vec ℕ Global × List ℕ)) (m : FinMap (s
 insert-vec_rows es fs m k q v is_map is_key is =
     ap (λ l. from_entries (map row l)) is ∙ ap from_entries (put-vec k v es) ∙ insert-put (map row es) k.items v
     ∙ ap (λ m. insert m k.items v) is_map ∙ ap (λ q. insert m q v) is_key
+
+-- ROWS WHOSE VALUES ARE VECTORS
+
+abbrev pub filled_row : List ℕ × Vec ℕ Global → List ℕ × List ℕ
+filled_row e = (e.0, e.1.items)
+
+find-filled : (es : List (List ℕ × Vec ℕ Global)) (q : List ℕ) → find (slice_cmp nat_cmp) q (map filled_row es) ≡ option_map (λ v. v.items) (lookup (λ k. is_eq (slice_cmp nat_cmp q k)) es)
+find-filled [] q = refl
+find-filled (e ∷ es) q = elim (is_eq (slice_cmp nat_cmp q e.0)) as (λ b. cond b (Some e.1.items) (find (slice_cmp nat_cmp) q (map filled_row es)) ≡ option_map (λ v. v.items) (cond b (Some e.1) (lookup (λ k. is_eq (slice_cmp nat_cmp q k)) es))) [
+  | true ↦ refl
+  | false ↦ find-filled es q
+]
+
+-- what a node's row contains
+pub bytes-filled_rows : (es : List (List ℕ × Vec ℕ Global)) (m : FinMap (slice_cmp nat_cmp) (List ℕ)) (q : List ℕ) (found : Option (Vec ℕ Global)) → from_entries (map filled_row es) ≡ m →
+    found ≡ lookup (λ k. is_eq (slice_cmp nat_cmp q k)) es → unwrap_or (option_map (λ v. v.items) found) [] ≡ bytes_under m q
+unfolding bytes_under
+bytes-filled_rows es m q found is_map is =
+    ap (λ o. unwrap_or (option_map (λ (v : Vec ℕ Global). v.items) o) []) is
+    ∙ ap (λ o. unwrap_or o []) (sym (find-filled es q) ∙ sym (get-from_entries nat_list_cmp_total (map filled_row es) q))
+    ∙ ap (λ m. unwrap_or (get m q) []) is_map
+
+put-filled : (k : List ℕ) (v : Vec ℕ Global) (es : List (List ℕ × Vec ℕ Global)) → map filled_row (insert_entry (slice_cmp nat_cmp) es k v) ≡ put (slice_cmp nat_cmp) k v.items (map filled_row es)
+put-filled k v [] = refl
+put-filled k v (e ∷ es) = elim (slice_cmp nat_cmp k e.0) as (λ o. map filled_row (match_ordering o ((k, v) ∷ e ∷ es) ((e.0, v) ∷ es) (e ∷ insert_entry (slice_cmp nat_cmp) es k v)) ≡ by_order o ((k, v.items) ∷ map filled_row (e ∷ es)) ((e.0, v.items) ∷ map filled_row es) (filled_row e ∷ put (slice_cmp nat_cmp) k v.items (map filled_row es))) [
+  | Less ↦ refl
+  | Equal ↦ refl
+  | Greater ↦ ap (λ l. filled_row e ∷ l) (put-filled k v es)
+]
+
+pub insert-filled_rows : (es fs : List (List ℕ × Vec ℕ Global)) (m : FinMap (slice_cmp nat_cmp) (List ℕ)) (k : List ℕ) (v : Vec ℕ Global) (w : List ℕ) → from_entries (map filled_row es) ≡ m → v.items ≡ w →
+    fs ≡ insert_entry (slice_cmp nat_cmp) es k v → from_entries (map filled_row fs) ≡ insert m k w
+insert-filled_rows es fs m k v w is_map is_bytes is =
+    ap (λ l. from_entries (map filled_row l)) is ∙ ap from_entries (put-filled k v es) ∙ insert-put (map filled_row es) k v.items
+    ∙ ap (λ m. insert m k v.items) is_map ∙ ap (insert m k) is_bytes

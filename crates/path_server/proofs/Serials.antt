@@ -4,7 +4,8 @@ use Rattle.std.specs.Int.{w64, from_be_bytes}
 use Rattle.std.proofs.lemmas.Nat.{from_be_bytes-to_be_bytes_8}
 use Rattle.std.specs.FinMap.{get}
 use Rattle.server_trait.specs.Tree.{ByBytes}
-use Rattle.path_server.specs.Paths.{serial_bytes, AreSerials}
+use Rattle.path_server.specs.Paths.{serial_bytes}
+use Rattle.path_server.specs.Sound.{AreSerials}
 use Rattle.path_server.specs.declared.node.PathNode.{PathNode}
 
 pub length-serial_bytes : (n : ℕ) → length (serial_bytes n) ≡ 32
@@ -18,13 +19,13 @@ serial_back n fits = from_be_bytes-to_be_bytes_8 n fits
 same_serial : (a b : ℕ) → a < 2 ^ 64 → b < 2 ^ 64 → serial_bytes a ≡ serial_bytes b → a ≡ b
 same_serial a b fits fits' e = sym (serial_back a fits) ∙ ap (λ l. from_be_bytes w64 (take 8 l)) e ∙ serial_back b fits'
 
-module _ (kept : ByBytes PathNode) (next : ℕ) (serials : AreSerials kept next) where
-  pub kept_fits : (h : List ℕ) (p : PathNode) → get kept h ≡ Some p → length h ≡ 32
+module _ (nodes : ByBytes PathNode) (next : ℕ) (serials : AreSerials nodes next) where
+  pub kept_fits : (h : List ℕ) (p : PathNode) → get nodes h ≡ Some p → length h ≡ 32
   kept_fits h p is = ap length (serials h p is).0 ∙ length-serial_bytes p.number
 
   -- no node has the handle of the next number
-  pub next_absent : next < 2 ^ 64 → get kept (serial_bytes next) ≡ None
-  next_absent fits = elim (get kept (serial_bytes next)) as (λ o. get kept (serial_bytes next) ≡ o → o ≡ None) [
+  pub next_absent : next < 2 ^ 64 → get nodes (serial_bytes next) ≡ None
+  next_absent fits = elim (get nodes (serial_bytes next)) as (λ o. get nodes (serial_bytes next) ≡ o → o ≡ None) [
     | None ↦ λ _. refl
     | Some p ↦ λ is.
         let s = serials (serial_bytes next) p is in

@@ -1,15 +1,24 @@
--- The directories that a path server keeps.
-use Rattle.std.specs.Prelude.{ℕ, ◌+◌}
+-- The nodes that a path server keeps.
+use Rattle.std.specs.Prelude.{ℕ, ◌+◌, Bool, true, false}
+use Rattle.nfs2_types.specs.declared.fattr.Kind.{Kind}
+use Rattle.nfs2_types.specs.declared.fattr.Kind.TheVariants.{File, Dir, Link}
+use Rattle.server_trait.specs.Tree.{one_if}
 use Rattle.path_server.specs.declared.node.PathNode.{PathNode}
 
--- a directory as it is made
-abbrev pub made_node : ℕ → PathNode
-made_node number = record { number = number; mode = 0; uid = 0; gid = 0; names = 0 }
+-- it is a directory
+abbrev pub is_dir : Kind → Bool
+is_dir File = false
+is_dir Dir = true
+is_dir Link = false
 
--- a directory with one name more
-abbrev pub one_more : PathNode → PathNode
-one_more p = record { number = p.number; mode = p.mode; uid = p.uid; gid = p.gid; names = p.names + 1 }
+-- a node as it is made, to which so many names lead
+abbrev pub made_node : Kind → ℕ → ℕ → PathNode
+made_node kind number links = record { number = number; kind = kind; mode = 0; uid = 0; gid = 0; names = 0; subdirs = 0; links = links }
 
--- a directory with other attributes
+-- a directory with one name more, which leads to a node of this kind
+abbrev pub one_more : Kind → PathNode → PathNode
+one_more kind p = record p { names = p.names + 1; subdirs = p.subdirs + one_if (is_dir kind) }
+
+-- a node with other attributes
 abbrev pub set_node : ℕ → ℕ → ℕ → PathNode → PathNode
-set_node mode uid gid p = record { number = p.number; mode = mode; uid = uid; gid = gid; names = p.names }
+set_node mode uid gid p = record p { mode = mode; uid = uid; gid = gid }

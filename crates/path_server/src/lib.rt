@@ -1,6 +1,7 @@
-//! A file server that keeps its directories in memory.
+//! A file server that keeps its tree in memory.
 #![tactic(auto)]
 
+mod contents;
 mod key;
 mod laws;
 mod names;

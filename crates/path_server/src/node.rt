@@ -1,48 +1,61 @@
-//! Directories, and their handles.
+//! What is kept of a node, and its handle.
 
 ghost use Rattle.std.specs.Prelude.{◌≡◌, ◌+◌, ◌<◌, ◌^◌};
 ghost use Rattle.path_server.specs.Paths.{serial_bytes};
 
-use nfs2_types::Handle;
+use nfs2_types::{Handle, Kind};
 
-/// A directory: its number, its mode and owners, and how many names it has. Each of them leads to a directory.
+/// A node without its content: how many names it has and how many of these lead to directories, which is none where it
+/// is no directory, and how many names lead to it.
 #[derive(Clone, Copy, Debug)]
 pub struct PathNode {
     pub number: u64,
+    pub kind: Kind,
     pub mode: u32,
     pub uid: u32,
     pub gid: u32,
     pub names: u32,
+    pub subdirs: u32,
+    pub links: u32,
 }
 
 impl PathNode {
     ghost use Rattle.path_server.specs.Nodes.{made_node, one_more, set_node};
 
-    /// A directory of mode, uid and gid 0, without names.
-    pub fn new(number: u64) -> PathNode
-        ensures { result ≡ made_node number }
+    /// A node of mode, uid and gid 0, without names.
+    pub fn new(kind: Kind, number: u64, links: u32) -> PathNode
+        ensures { result ≡ made_node kind number links }
     {
         PathNode {
             number,
+            kind,
             mode: 0,
             uid: 0,
             gid: 0,
             names: 0,
+            subdirs: 0,
+            links,
         }
     }
 
-    /// The directory with one name more.
-    pub fn with_name(self) -> PathNode
-        requires { self.names + 1 < 2 ^ 32 }
-        ensures { result ≡ one_more self }
+    /// The directory with one name more, which leads to a node of this kind.
+    pub fn with_name(self, kind: Kind) -> PathNode
+        requires names { self.names + 1 < 2 ^ 32 }
+        requires subdirs { self.subdirs + 1 < 2 ^ 32 }
+        ensures { result ≡ one_more kind self }
     {
+        let subdirs = match kind {
+            Kind::Dir => self.subdirs + 1,
+            Kind::File | Kind::Link => self.subdirs,
+        };
         PathNode {
             names: self.names + 1,
+            subdirs,
             ..self
         }
     }
 
-    /// The directory with other attributes.
+    /// The node with other attributes.
     pub fn with_attr(self, mode: u32, uid: u32, gid: u32) -> PathNode
         ensures { result ≡ set_node mode uid gid self }
     {

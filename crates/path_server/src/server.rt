@@ -1,19 +1,26 @@
 //! The server.
 
-ghost use Rattle.std.specs.Prelude.{◌≡◌, ◌≤◌, ◌+◌, ◌++◌, ◌<◌, true, false, IfOk, OnOk, OnErr, Some, None};
-ghost use Rattle.std.specs.FinMap.{get, len, empty};
-ghost use Rattle.server_trait.specs.Tree.{NamesOf};
-ghost use Rattle.server_trait.specs.Calls.{IsFresh, Made};
-ghost use Rattle.path_server.specs.Paths.{IsSound, kept_in};
+ghost use Rattle.std.specs.Prelude.{◌≡◌, ◌≤◌, ◌+◌, ◌-◌, ◌++◌, ◌<◌, true, false, IfOk, OnOk, OnErr, Some, None, length};
+ghost use Rattle.std.specs.FinMap.{get, len, empty, from_entries};
+ghost use Rattle.nfs2_types.specs.Names.{is_name};
+ghost use Rattle.nfs2_types.specs.declared.fattr.Kind.TheVariants.{Dir};
+ghost use Rattle.server_trait.specs.Tree.{used_by, size_of, links_of};
+ghost use Rattle.server_trait.specs.Step.{HasTree};
+ghost use Rattle.server_trait.specs.Calls.{IsFresh, Made, Make};
+ghost use Rattle.path_server.specs.Bytes.{content_of};
+ghost use Rattle.path_server.specs.Kept.{IsFound, IsFoundDir, full_node, kept_as, the_tree};
+ghost use Rattle.path_server.specs.Sound.{IsSound};
 
+use crate::contents::PathContents;
 use crate::names::PathNames;
 use crate::node::{PathNode, handle_of};
 use nfs2_types::{Handle, Kind, NoMemory, Time};
-use server_trait::{FileServer, NodeAttr, ServerLimits, SrvErr};
+use server_trait::{FileServer, Listed, NodeAttr, ServerLimits, SrvErr};
 use std::alloc::Global;
 use std::collections::BTreeMap;
 
-/// Directories in memory, under handles that are serial numbers, which go on after a wipe. It never answers Fault.
+/// A tree in memory, under handles that are serial numbers, which go on after a wipe. It never answers Fault, and Full
+/// only where the tree would pass its limits.
 #[derive(Drop)]
 pub struct PathServer {
     alloc: Global,
@@ -23,13 +30,14 @@ pub struct PathServer {
     next: u64,
     bytes: u64,
     nodes: BTreeMap<Handle, PathNode>,
+    contents: PathContents,
     names: PathNames,
     ghost limited: { limits.bytes ≤ 1073741824 },
-    ghost sound: { held ≡ true → IsSound limits next bytes root (kept_in nodes.entries) names },
+    ghost sound: { held ≡ true → IsSound limits next bytes (kept_as root (from_entries nodes.entries) contents names) },
 }
 
 impl PathServer {
-    ghost use Rattle.path_server.specs.State.{nodes_kept, tree_kept, state_of};
+    ghost use Rattle.path_server.specs.State.{kept_by, state_of};
 
     /// A server with an empty root. Errors: NoMemory.
     pub fn new(alloc: Global, limits: ServerLimits) -> Result<PathServer, NoMemory>
@@ -46,6 +54,7 @@ impl PathServer {
             next: 0,
             bytes: 0,
             nodes: BTreeMap::new(alloc),
+            contents: PathContents::new(alloc),
             names: PathNames::new(alloc),
         };
         server.start()?;
@@ -64,9 +73,11 @@ impl PathServer {
             return Err(NoMemory);
         };
         self.names = PathNames::new(self.alloc);
+        self.contents = PathContents::new(self.alloc);
         self.nodes.clear();
         self.root = handle_of(self.next);
-        let Ok(_) = self.nodes.insert(self.root, PathNode::new(self.next)) else {
+        let root = PathNode::new(Kind::Dir, self.next, 0);
+        let Ok(_) = self.nodes.insert(self.root, root) else {
             return Err(NoMemory);
         };
         self.next = next;
@@ -75,15 +86,46 @@ impl PathServer {
         Ok(())
     }
 
-    /// Makes a directory of a new name, where there is room. Without memory there is no tree.
-    fn add_dir(&mut self, dir: &Handle, kept: PathNode, name: &[u8]) -> Result<Handle, NoMemory>
+    /// What is kept of a node of this kind. Errors: Stale, WrongKind.
+    fn find(&self, node: &Handle, kind: Kind) -> Result<PathNode, SrvErr>
+        ensures { IsFound (kept_by self.now).nodes node.now kind result }
+    {
+        match self.nodes.get(node).copied() {
+            Some(kept) if kept.kind == kind => Ok(kept),
+            Some(_) => Err(SrvErr::WrongKind),
+            None => Err(SrvErr::Stale),
+        }
+    }
+
+    /// What is kept of a directory. Errors: Stale, NotDir.
+    fn find_dir(&self, dir: &Handle) -> Result<PathNode, SrvErr>
+        ensures { IsFoundDir (kept_by self.now).nodes dir.now result }
+    {
+        match self.nodes.get(dir).copied() {
+            Some(kept) if kept.kind == Kind::Dir => Ok(kept),
+            Some(_) => Err(SrvErr::NotDir),
+            None => Err(SrvErr::Stale),
+        }
+    }
+
+    /// Makes a node of a new name, where there is room. Without memory there is no tree.
+    fn add_node(
+        &mut self,
+        dir: &Handle,
+        kept: PathNode,
+        name: &[u8],
+        kind: Kind,
+        bytes: &[u8],
+    ) -> Result<Handle, NoMemory>
         requires held { self.old.held ≡ true }
-        requires kept { get (nodes_kept self.old) dir.now ≡ Some kept }
+        requires kept { get (kept_by self.old).nodes dir.now ≡ Some kept }
+        requires is_dir { kept.kind ≡ Dir }
         requires new_name { get self.old.names (dir.now ++ name.now) ≡ None }
-        requires nodes { len (nodes_kept self.old) < self.old.limits.nodes }
-        requires bytes { self.old.bytes + 512 ≤ self.old.limits.bytes }
+        requires nodes { len (kept_by self.old).nodes < self.old.limits.nodes }
+        requires bytes { used_by (content_of kind bytes.now empty) ≡ length bytes.now }
+        requires room { self.old.bytes + (512 + length bytes.now) ≤ self.old.limits.bytes }
         ensures ok { IfOk result (λ h.
-            Made (tree_kept self.old) dir.now name.now (NamesOf empty) h (state_of self.new).tree) }
+            Made (the_tree (kept_by self.old)) dir.now name.now (content_of kind bytes.now empty) h (state_of self.new).tree) }
         ensures err { OnErr result (self.new.held ≡ false) }
         ensures limits { self.new.limits ≡ self.old.limits }
     {
@@ -94,16 +136,60 @@ impl PathServer {
         };
         let handle = handle_of(self.next);
         self.names.insert(self.alloc, dir, name, handle)?;
-        let Ok(_) = self.nodes.insert(handle, PathNode::new(self.next)) else {
+        self.contents.add(self.alloc, &handle, kind, bytes)?;
+        let node = PathNode::new(kind, self.next, 1);
+        let Ok(_) = self.nodes.insert(handle, node) else {
             return Err(NoMemory);
         };
-        let Ok(_) = self.nodes.insert(*dir, kept.with_name()) else {
+        let Ok(_) = self.nodes.insert(*dir, kept.with_name(kind)) else {
             return Err(NoMemory);
         };
         self.next = next;
-        self.bytes += 512;
+        self.bytes += 512 + bytes.len() as u64;
         self.held = true;
         Ok(handle)
+    }
+
+    /// Makes a node of a kind with these bytes. Errors: Stale, NotDir, Exists, Full, NoMemory.
+    fn make(
+        &mut self,
+        dir: &Handle,
+        name: &[u8],
+        kind: Kind,
+        bytes: &[u8],
+    ) -> Result<Handle, SrvErr>
+        requires tree { HasTree (state_of self.old) }
+        requires name { is_name name.now ≡ true }
+        requires bytes { used_by (content_of kind bytes.now empty) ≡ length bytes.now }
+        requires few { length bytes.now ≤ 1024 }
+        ensures { Make (content_of kind bytes.now empty) (length bytes.now) (state_of self.old) dir.now name.now result (state_of self.new) }
+    {
+        let kept = self.find_dir(dir)?;
+        if self.names.get(dir, name).is_some() {
+            return Err(SrvErr::Exists);
+        }
+        let more = 512 + bytes.len() as u64;
+        if self.nodes.len() >= self.limits.nodes as usize || self.bytes + more > self.limits.bytes {
+            return Err(SrvErr::Full);
+        }
+        match self.add_node(dir, kept, name, kind, bytes) {
+            Ok(handle) => Ok(handle),
+            Err(_) => Err(SrvErr::NoMemory),
+        }
+    }
+
+    /// The size and the links of a node.
+    fn size_and_links(&self, node: &Handle, kept: PathNode) -> (u32, u32)
+        requires held { self.now.held ≡ true }
+        requires kept { get (kept_by self.now).nodes node.now ≡ Some kept }
+        ensures size { result.0 ≡ size_of (full_node self.now.contents self.now.names node.now kept).content }
+        ensures links { result.1 ≡ links_of (the_tree (kept_by self.now)) node.now
+            (full_node self.now.contents self.now.names node.now kept).content }
+    {
+        match kept.kind {
+            Kind::Dir => (kept.names, kept.subdirs),
+            Kind::File | Kind::Link => (self.contents.get(node).len() as u32, kept.links),
+        }
     }
 }
 
@@ -121,29 +207,20 @@ impl FileServer for PathServer {
     }
 
     fn attr(&mut self, node: &Handle) -> Result<NodeAttr, SrvErr> {
-        match self.nodes.get(node) {
-            Some(kept) => Ok(NodeAttr {
-                kind: Kind::Dir,
-                number: kept.number,
-                mode: kept.mode,
-                uid: kept.uid,
-                gid: kept.gid,
-                size: kept.names,
-                links: kept.names,
-                time: Time { secs: 0, micros: 0 },
-            }),
-            None => Err(SrvErr::Stale),
-        }
-    }
-
-    fn lookup(&mut self, dir: &Handle, name: &[u8]) -> Result<Handle, SrvErr> {
-        if !self.nodes.contains_key(dir) {
+        let Some(kept) = self.nodes.get(node).copied() else {
             return Err(SrvErr::Stale);
-        }
-        match self.names.get(dir, name) {
-            Some(handle) => Ok(handle),
-            None => Err(SrvErr::NoEnt),
-        }
+        };
+        let (size, links) = self.size_and_links(node, kept);
+        Ok(NodeAttr {
+            kind: kept.kind,
+            number: kept.number,
+            mode: kept.mode,
+            uid: kept.uid,
+            gid: kept.gid,
+            size,
+            links,
+            time: Time { secs: 0, micros: 0 },
+        })
     }
 
     fn set_attr(&mut self, node: &Handle, mode: u32, uid: u32, gid: u32) -> Result<(), SrvErr> {
@@ -151,27 +228,56 @@ impl FileServer for PathServer {
             return Err(SrvErr::Stale);
         };
         let changed = kept.with_attr(mode, uid, gid);
-        // A directory that is there takes no memory.
+        // A node that is there takes no memory.
         let Ok(_) = self.nodes.insert(*node, changed) else {
             unreachable!();
         };
         Ok(())
     }
 
+    fn read(&mut self, _file: &Handle, _offset: u32, _count: u32) -> Result<Vec<u8>, SrvErr> {
+        self.held = false;
+        Err(SrvErr::NoMemory)
+    }
+
+    fn read_link(&mut self, _link: &Handle) -> Result<Vec<u8>, SrvErr> {
+        self.held = false;
+        Err(SrvErr::NoMemory)
+    }
+
+    fn write(&mut self, _file: &Handle, _offset: u32, _piece: &[u8]) -> Result<u32, SrvErr> {
+        self.held = false;
+        Err(SrvErr::NoMemory)
+    }
+
+    fn set_size(&mut self, _file: &Handle, _size: u32) -> Result<(), SrvErr> {
+        self.held = false;
+        Err(SrvErr::NoMemory)
+    }
+
+    fn lookup(&mut self, dir: &Handle, name: &[u8]) -> Result<Handle, SrvErr> {
+        let _ = self.find_dir(dir)?;
+        match self.names.get(dir, name) {
+            Some(handle) => Ok(handle),
+            None => Err(SrvErr::NoEnt),
+        }
+    }
+
+    fn list(&mut self, _dir: &Handle) -> Result<Vec<Listed>, SrvErr> {
+        self.held = false;
+        Err(SrvErr::NoMemory)
+    }
+
+    fn create(&mut self, dir: &Handle, name: &[u8]) -> Result<Handle, SrvErr> {
+        self.make(dir, name, Kind::File, b"")
+    }
+
     fn mkdir(&mut self, dir: &Handle, name: &[u8]) -> Result<Handle, SrvErr> {
-        let Some(kept) = self.nodes.get(dir).copied() else {
-            return Err(SrvErr::Stale);
-        };
-        if self.names.get(dir, name).is_some() {
-            return Err(SrvErr::Exists);
-        }
-        if self.nodes.len() >= self.limits.nodes as usize || self.bytes + 512 > self.limits.bytes {
-            return Err(SrvErr::Full);
-        }
-        match self.add_dir(dir, kept, name) {
-            Ok(handle) => Ok(handle),
-            Err(_) => Err(SrvErr::NoMemory),
-        }
+        self.make(dir, name, Kind::Dir, b"")
+    }
+
+    fn symlink(&mut self, dir: &Handle, name: &[u8], text: &[u8]) -> Result<Handle, SrvErr> {
+        self.make(dir, name, Kind::Link, text)
     }
 
     fn wipe(&mut self) -> Result<(), SrvErr> {

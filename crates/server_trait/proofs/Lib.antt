@@ -1,3 +1,4 @@
+pub mod CountLaws
 pub mod KeyedSums
 pub mod SoftLaws
 pub mod SumLaws

@@ -1,0 +1,80 @@
+-- What a node contains, by its kind.
+use Rattle.std.proofs.Common.{inl, inr, ◌≡◌, ◌≢◌, ℕ, ◌+◌, ◌*◌, cond, List, [], length, Option, Some, None, refl, sym, ap, ◌∙◌, subst}
+use Rattle.std.specs.Prelude.{unwrap_or, Bool, true, false}
+use Rattle.std.specs.Ordering.{nat_cmp}
+use Rattle.std.specs.Cmp.Lexicographic.{slice_cmp, nat_list_cmp_total}
+use Rattle.std.specs.FinMap.{get, insert, empty, len, get-empty}
+use Rattle.nfs2_types.specs.declared.fattr.Kind.{Kind}
+use Rattle.nfs2_types.specs.declared.fattr.Kind.TheVariants.{File, Dir, Link}
+use Rattle.server_trait.specs.Tree.{Content, BytesOf, TextOf, NamesOf, Names, bytes_in, text_in, names_in, kind_of, names_to, one_if, size_of}
+use Rattle.server_trait.proofs.SumLaws.{total-none}
+use Rattle.server_trait.proofs.TreeLaws.{some_none, get-insert_same, get-insert_other}
+use Rattle.path_server.specs.Nodes.{is_dir}
+use Rattle.path_server.specs.Bytes.{Contents, IsAdded, bytes_under, content_of}
+
+-- KINDS
+
+pub file_content : (kind : Kind) (bytes : List ℕ) (names : Names) → kind ≡ File → content_of kind bytes names ≡ BytesOf bytes
+file_content kind bytes names is = ap (λ kind. content_of kind bytes names) is
+
+pub dir_content : (kind : Kind) (bytes : List ℕ) (names : Names) → kind ≡ Dir → content_of kind bytes names ≡ NamesOf names
+dir_content kind bytes names is = ap (λ kind. content_of kind bytes names) is
+
+pub link_content : (kind : Kind) (bytes : List ℕ) (names : Names) → kind ≡ Link → content_of kind bytes names ≡ TextOf bytes
+link_content kind bytes names is = ap (λ kind. content_of kind bytes names) is
+
+pub no_bytes : (kind : Kind) (bytes : List ℕ) (names : Names) → kind ≢ File → bytes_in (content_of kind bytes names) ≡ None
+no_bytes File bytes names ne = absurd (ne refl)
+no_bytes Dir bytes names ne = refl
+no_bytes Link bytes names ne = refl
+
+pub no_text : (kind : Kind) (bytes : List ℕ) (names : Names) → kind ≢ Link → text_in (content_of kind bytes names) ≡ None
+no_text File bytes names ne = refl
+no_text Dir bytes names ne = refl
+no_text Link bytes names ne = absurd (ne refl)
+
+pub no_names : (kind : Kind) (bytes : List ℕ) (names : Names) → kind ≢ Dir → names_in (content_of kind bytes names) ≡ None
+no_names File bytes names ne = refl
+no_names Dir bytes names ne = absurd (ne refl)
+no_names Link bytes names ne = refl
+
+pub its_kind : (kind : Kind) (bytes : List ℕ) (names : Names) → kind_of (content_of kind bytes names) ≡ kind
+its_kind File bytes names = refl
+its_kind Dir bytes names = refl
+its_kind Link bytes names = refl
+
+-- the names of a node that has any are its directory's
+pub its_names : (kind : Kind) (bytes : List ℕ) (names m : Names) → names_in (content_of kind bytes names) ≡ Some m → names ≡ m
+its_names File bytes names m is = absurd (some_none is refl)
+its_names Dir bytes names m is = (let same : Some names ≡ Some m = is in cc)
+its_names Link bytes names m is = absurd (some_none is refl)
+
+pub has_names : (kind : Kind) (bytes : List ℕ) (names : Names) → elim (names_in (content_of kind bytes names)) as (λ _. Bool) [ None ↦ false | Some m ↦ true ] ≡ is_dir kind
+has_names File bytes names = refl
+has_names Dir bytes names = refl
+has_names Link bytes names = refl
+
+-- to nothing do the names of a new node lead
+pub names_to-new : (kind : Kind) (bytes q : List ℕ) → names_to q (content_of kind bytes empty) ≡ 0
+names_to-new File bytes q = refl
+names_to-new Dir bytes q = total-none nat_list_cmp_total _ empty (λ k x is. absurd (some_none is (get-empty (slice_cmp nat_cmp) k)))
+names_to-new Link bytes q = refl
+
+-- BYTES
+
+pub bytes-insert_same : (contents : Contents) (h b : List ℕ) → bytes_under (insert contents h b) h ≡ b
+unfolding bytes_under
+bytes-insert_same contents h b = ap (λ o. unwrap_or o []) (get-insert_same contents h b)
+
+pub bytes-insert_other : (contents : Contents) (h b q : List ℕ) → q ≢ h → bytes_under (insert contents h b) q ≡ bytes_under contents q
+unfolding bytes_under
+bytes-insert_other contents h b q ne = ap (λ o. unwrap_or o []) (get-insert_other contents h b q ne)
+
+pub added-dir : (h b : List ℕ) (contents : Contents) → IsAdded Dir h b contents contents
+added-dir h b contents = record { here = λ names. refl; others = λ q ne. refl }
+
+pub added-bytes : (kind : Kind) (h b c : List ℕ) (old new : Contents) → c ≡ b → new ≡ insert old h c → IsAdded kind h b old new
+added-bytes kind h b c old new same is = record {
+  here = λ names. ap (λ m. content_of kind (bytes_under m h) names) is ∙ ap (λ l. content_of kind l names) (bytes-insert_same old h c ∙ same);
+  others = λ q ne. ap (λ m. bytes_under m q) is ∙ bytes-insert_other old h c q ne;
+}
