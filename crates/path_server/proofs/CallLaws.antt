@@ -1,5 +1,5 @@
 -- What the calls of a path server answer, over plain values.
-use Rattle.std.proofs.Common.{◌≡◌, ◌≢◌, ◌⊎◌, inl, inr, ℕ, ◌+◌, ◌<◌, ◌≤◌, ◌++◌, Bool, true, false, cond, List, Option, Some, None, Ok, Err, IsSomeAnd, refl, sym, ap, ◌∙◌, subst, arith}
+use Rattle.std.proofs.Common.{◌≡◌, ◌≢◌, ◌⊎◌, inl, inr, ℕ, ◌+◌, ◌<◌, ◌≤◌, ◌++◌, Bool, true, false, cond, List, Option, Some, None, Ok, Err, IsSome, IsSomeAnd, refl, sym, ap, ◌∙◌, subst, arith}
 use Rattle.std.specs.FinMap.{get, len}
 use Rattle.nfs2_types.specs.declared.fattr.Kind.{Kind}
 use Rattle.nfs2_types.specs.declared.fattr.Kind.TheVariants.{Dir}
@@ -27,6 +27,10 @@ use Rattle.path_server.proofs.SoundLaws.{fits, target_is, names_at-is}
 pub held_tree : (held : Bool) (t0 : Tree) (P : Tree → Type 0) → (held ≡ true → P t0) → (t : Tree) → cond held (Some t0) None ≡ Some t → P t
 held_tree true t0 P h t e = subst P (let same : Some t0 ≡ Some t = e in let one : t0 ≡ t = cc in one) (h refl)
 held_tree false t0 P h t e = absurd (let no : None ≡ Some t = e in cc)
+
+pub is_held : (held : Bool) (t : Tree) → IsSome (cond held (Some t) None) → held ≡ true
+is_held true t h = refl
+is_held false t h = h
 
 -- why a node of a kind was not found
 pub found_error : (nodes : ByBytes PathNode) (h : List ℕ) (kind : Kind) (e : SrvErr) → IsFound nodes h kind (Err e) →

@@ -1,7 +1,10 @@
+pub mod ByteLaws
 pub mod CallLaws
 pub mod ChangeLaws
 pub mod ContentLaws
 pub mod CountedLaws
+pub mod FileCallLaws
+pub mod FileLaws
 pub mod Keys
 pub mod MakeLaws
 pub mod NameLaws

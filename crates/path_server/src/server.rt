@@ -1,22 +1,23 @@
 //! The server.
 
-ghost use Rattle.std.specs.Prelude.{◌≡◌, ◌≤◌, ◌+◌, ◌-◌, ◌++◌, ◌<◌, true, false, IfOk, OnOk, OnErr, Some, None, length};
+ghost use Rattle.std.specs.Prelude.{◌≡◌, ◌≤◌, ◌+◌, ◌-◌, ◌++◌, ◌<◌, true, false, IfOk, OnOk, OnErr, Some, None, IsSomeAnd, length};
 ghost use Rattle.std.specs.FinMap.{get, len, empty, from_entries};
 ghost use Rattle.nfs2_types.specs.Names.{is_name};
-ghost use Rattle.nfs2_types.specs.declared.fattr.Kind.TheVariants.{Dir};
-ghost use Rattle.server_trait.specs.Tree.{used_by, size_of, links_of};
+ghost use Rattle.nfs2_types.specs.declared.fattr.Kind.TheVariants.{File, Dir};
+ghost use Rattle.server_trait.specs.Tree.{used_by, size_of, links_of, edited, with_bytes};
 ghost use Rattle.server_trait.specs.Step.{HasTree};
 ghost use Rattle.server_trait.specs.Calls.{IsFresh, Made, Make};
-ghost use Rattle.path_server.specs.Bytes.{content_of};
+ghost use Rattle.path_server.specs.Bytes.{bytes_under, content_of, rewritten};
 ghost use Rattle.path_server.specs.Kept.{IsFound, IsFoundDir, full_node, kept_as, the_tree};
 ghost use Rattle.path_server.specs.Sound.{IsSound};
 
-use crate::contents::PathContents;
+use crate::contents::{PathContents, part, rewrite};
 use crate::names::PathNames;
 use crate::node::{PathNode, handle_of};
 use nfs2_types::{Handle, Kind, NoMemory, Time};
 use server_trait::{FileServer, Listed, NodeAttr, ServerLimits, SrvErr};
 use std::alloc::Global;
+use std::cmp::max;
 use std::collections::BTreeMap;
 
 /// A tree in memory, under handles that are serial numbers, which go on after a wipe. It never answers Fault, and Full
@@ -178,6 +179,33 @@ impl PathServer {
         }
     }
 
+    /// Gives a file another size and puts a piece at an offset, where there is room. Without memory there is no tree.
+    fn change(
+        &mut self,
+        file: &Handle,
+        size: usize,
+        offset: usize,
+        piece: &[u8],
+    ) -> Result<(), NoMemory>
+        requires held { self.old.held ≡ true }
+        requires file { IsSomeAnd (get (kept_by self.old).nodes file.now) (λ p. p.kind ≡ File) }
+        requires end { offset + length piece.now ≤ size }
+        requires room { (self.old.bytes - length (bytes_under self.old.contents file.now)) + size ≤ self.old.limits.bytes }
+        ensures ok { OnOk result ((state_of self.new).tree
+            ≡ Some (edited (the_tree (kept_by self.old)) file.now (with_bytes (rewritten size offset piece.now)))) }
+        ensures err { OnErr result (self.new.held ≡ false) }
+        ensures limits { self.new.limits ≡ self.old.limits }
+    {
+        self.held = false;
+        let mut bytes = self.contents.take(self.alloc, file)?;
+        let len = bytes.len();
+        rewrite(&mut bytes, size, offset, piece)?;
+        self.contents.insert(*file, bytes)?;
+        self.bytes = self.bytes - len as u64 + size as u64;
+        self.held = true;
+        Ok(())
+    }
+
     /// The size and the links of a node.
     fn size_and_links(&self, node: &Handle, kept: PathNode) -> (u32, u32)
         requires held { self.now.held ≡ true }
@@ -235,24 +263,53 @@ impl FileServer for PathServer {
         Ok(())
     }
 
-    fn read(&mut self, _file: &Handle, _offset: u32, _count: u32) -> Result<Vec<u8>, SrvErr> {
-        self.held = false;
-        Err(SrvErr::NoMemory)
+    fn read(&mut self, file: &Handle, offset: u32, count: u32) -> Result<Vec<u8>, SrvErr> {
+        let _ = self.find(file, Kind::File)?;
+        let bytes = part(self.contents.get(file), offset as usize, count as usize);
+        match Vec::from_slice(self.alloc, bytes) {
+            Ok(copy) => Ok(copy),
+            Err(_) => {
+                self.held = false;
+                Err(SrvErr::NoMemory)
+            }
+        }
     }
 
-    fn read_link(&mut self, _link: &Handle) -> Result<Vec<u8>, SrvErr> {
-        self.held = false;
-        Err(SrvErr::NoMemory)
+    fn read_link(&mut self, link: &Handle) -> Result<Vec<u8>, SrvErr> {
+        let _ = self.find(link, Kind::Link)?;
+        match Vec::from_slice(self.alloc, self.contents.get(link)) {
+            Ok(copy) => Ok(copy),
+            Err(_) => {
+                self.held = false;
+                Err(SrvErr::NoMemory)
+            }
+        }
     }
 
-    fn write(&mut self, _file: &Handle, _offset: u32, _piece: &[u8]) -> Result<u32, SrvErr> {
-        self.held = false;
-        Err(SrvErr::NoMemory)
+    fn write(&mut self, file: &Handle, offset: u32, piece: &[u8]) -> Result<u32, SrvErr> {
+        let _ = self.find(file, Kind::File)?;
+        let start = offset as usize;
+        let len = self.contents.get(file).len();
+        let size = max(len, start + piece.len());
+        if self.bytes - len as u64 + size as u64 > self.limits.bytes {
+            return Err(SrvErr::Full);
+        }
+        match self.change(file, size, start, piece) {
+            Ok(()) => Ok(piece.len() as u32),
+            Err(_) => Err(SrvErr::NoMemory),
+        }
     }
 
-    fn set_size(&mut self, _file: &Handle, _size: u32) -> Result<(), SrvErr> {
-        self.held = false;
-        Err(SrvErr::NoMemory)
+    fn set_size(&mut self, file: &Handle, size: u32) -> Result<(), SrvErr> {
+        let _ = self.find(file, Kind::File)?;
+        let len = self.contents.get(file).len();
+        if self.bytes - len as u64 + u64::from(size) > self.limits.bytes {
+            return Err(SrvErr::Full);
+        }
+        match self.change(file, size as usize, 0, b"") {
+            Ok(()) => Ok(()),
+            Err(_) => Err(SrvErr::NoMemory),
+        }
     }
 
     fn lookup(&mut self, dir: &Handle, name: &[u8]) -> Result<Handle, SrvErr> {
