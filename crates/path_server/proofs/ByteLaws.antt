@@ -42,10 +42,11 @@ module _ (size offset : ℕ) (piece bytes : List ℕ) (is_size : size ≡ max (l
   abbrev end : ℕ
   end = offset + length piece
 
+  no_zeros : replicate {A = ℕ} ((size - length bytes) - (end - length bytes)) 0 ≡ []
+  no_zeros = let none : (size - length bytes) - (end - length bytes) ≡ 0 = omega (arith, is_size) in ap (λ n. replicate {A = ℕ} n 0) none
+
   no_gap : drop {A = ℕ} (end - length bytes) (replicate (size - length bytes) 0) ≡ []
-  no_gap =
-      let none : (size - length bytes) - (end - length bytes) ≡ 0 = omega (arith, is_size) in
-      drop-replicate (end - length bytes) (size - length bytes) 0 ∙ ap (λ n. replicate {A = ℕ} n 0) none
+  no_gap = drop-replicate (end - length bytes) (size - length bytes) 0 ∙ no_zeros
 
   back : drop end (resized size bytes) ≡ drop end bytes
   back = ap (drop end) longer ∙ drop_both end bytes (replicate (size - length bytes) 0) ∙ ap (λ l. drop end bytes ++ l) no_gap ∙ append-nil (drop end bytes)

@@ -1,18 +1,21 @@
 -- What the calls of a path server answer, over plain values.
 use Rattle.std.proofs.Common.{◌≡◌, ◌≢◌, ◌⊎◌, inl, inr, ℕ, ◌+◌, ◌<◌, ◌≤◌, ◌++◌, Bool, true, false, cond, List, Option, Some, None, Ok, Err, IsSome, IsSomeAnd, refl, sym, ap, ◌∙◌, subst, arith}
+use Rattle.std.specs.Prelude.{Vec}
+use Rattle.std.specs.declared.alloc.Global.{Global}
 use Rattle.std.specs.FinMap.{get, len}
 use Rattle.nfs2_types.specs.declared.fattr.Kind.{Kind}
 use Rattle.nfs2_types.specs.declared.fattr.Kind.TheVariants.{Dir}
 use Rattle.nfs2_types.specs.declared.time.Time.{Time}
-use Rattle.server_trait.specs.Tree.{Tree, Node, Content, Names, ByBytes, Server, names_in, node_at, target, size_of, links_of}
+use Rattle.server_trait.specs.Tree.{Tree, Node, Content, Names, ByBytes, Server, names_in, node_at, names_at, target, size_of, links_of}
 use Rattle.server_trait.specs.Step.{OnlySoft, IsStale, IsNo, HasName, LacksName, NoRoom}
-use Rattle.server_trait.specs.Calls.{IsAttr, Attr, Lookup, SetAttr, Make, Made, NodeErr, LookupErr, MakeErr}
+use Rattle.server_trait.specs.Calls.{IsAttr, Attr, Lookup, Lists, ListNames, SetAttr, Make, Made, NodeErr, DirErr, LookupErr, MakeErr}
 use Rattle.server_trait.specs.declared.server.SrvErr.{SrvErr}
 use Rattle.server_trait.specs.declared.server.SrvErr.TheVariants.{Stale, NoEnt, Exists, NotDir, WrongKind, Full}
+use Rattle.server_trait.specs.declared.server.Listed.{Listed}
 use Rattle.server_trait.specs.declared.server.NodeAttr.{NodeAttr}
 use Rattle.server_trait.specs.declared.server.ServerLimits.{ServerLimits}
 use Rattle.server_trait.proofs.TreeLaws.{is_some_and, some_and}
-use Rattle.server_trait.proofs.SoftLaws.{node_soft, lookup_soft, make_soft}
+use Rattle.server_trait.proofs.SoftLaws.{node_soft, dir_soft, lookup_soft, make_soft}
 use Rattle.path_server.specs.Bytes.{bytes_under, content_of}
 use Rattle.path_server.specs.Kept.{Kept, IsFound, IsFoundDir, the_tree, tree_of}
 use Rattle.path_server.specs.Paths.{names_of}
@@ -121,6 +124,20 @@ module _ (held : Bool) (limits : ServerLimits) (next bytes : ℕ) (k : Kept) (so
 
   pub lookup-none : (h name : List ℕ) (p : PathNode) → (get k.nodes h ≡ Some p) × (p.kind ≡ Dir) → get k.paths (h ++ name) ≡ None → Lookup the_server h name (Err NoEnt) the_server
   lookup-none h name p is none = record { tree = held_tree held now (λ t. LacksName t h name × (tree_of held k ≡ Some t)) (λ there. (lacks h name p there is none, stays there)); limits = refl; faults = refl }
+
+  pub list-err : (h : List ℕ) (e : SrvErr) → IsFoundDir k.nodes h (Err e) → ListNames the_server h (Err e) the_server
+  list-err h e found = found_dir_error k.nodes h e found (λ e. ListNames the_server h (Err e) the_server)
+      (λ is. record { tree = held_tree held now (λ t. IsStale t h × (tree_of held k ≡ Some t)) (λ there. (node_at-none k h is, stays there)); limits = refl; faults = refl })
+      (λ is. record { tree = held_tree held now (λ t. IsNo names_in t h × (tree_of held k ≡ Some t)) (λ there. (not_dir h is, stays there)); limits = refl; faults = refl })
+
+  pub list-ok : (h : List ℕ) (p : PathNode) (rows : Vec Listed Global) → (get k.nodes h ≡ Some p) × (p.kind ≡ Dir) → Lists rows.items (names_of k.paths h) → ListNames the_server h (Ok rows) the_server
+  list-ok h p rows is told = record {
+    tree = held_tree held now (λ t. (IsSomeAnd (names_at t h) (Lists rows.items) × (tree_of held k ≡ Some t)) × OnlySoft (DirErr h t)) (λ there.
+        let at = names_at-is limits next bytes k (sound there) h p is.0 is.1 in
+        ((is_some_and (Lists rows.items) at told, stays there), dir_soft now h (names_of k.paths h) at));
+    limits = refl;
+    faults = refl;
+  }
 
   -- NEW NODES
 

@@ -6,9 +6,11 @@ pub mod CountedLaws
 pub mod FileCallLaws
 pub mod FileLaws
 pub mod Keys
+pub mod ListLaws
 pub mod MakeLaws
 pub mod NameLaws
 pub mod NodeLaws
+pub mod OrderLaws
 pub mod Rows
 pub mod Serials
 pub mod SoundLaws

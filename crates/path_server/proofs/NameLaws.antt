@@ -22,13 +22,13 @@ same_test a b c d f g = elim (bytes_or_not a b) as (λ _. is_eq (slice_cmp nat_c
     same x y e = ap (λ z. is_eq (slice_cmp nat_cmp x z)) (sym e) ∙ same-key_refl x
 
 module _ (dir : List ℕ) (fits : length dir ≡ 32) where
-  whole : (key : List ℕ) → bytes_eq (take 32 key) dir ≡ true → key ≡ dir ++ drop 32 key
+  pub whole : (key : List ℕ) → bytes_eq (take 32 key) dir ≡ true → key ≡ dir ++ drop 32 key
   whole key t = sym (take-append-drop 32 key) ∙ ap (λ l. l ++ drop 32 key) ((bytes_eq-Decides (take 32 key) dir).0 t)
 
-  starts : (name key : List ℕ) → dir ++ name ≡ key → bytes_eq (take 32 key) dir ≡ true
+  pub starts : (name key : List ℕ) → dir ++ name ≡ key → bytes_eq (take 32 key) dir ≡ true
   starts name key e = (bytes_eq-Decides (take 32 key) dir).1 (ap (take 32) (sym e) ∙ start_of dir name fits)
 
-  entry_found : (name : List ℕ) (es : List (List ℕ × List ℕ)) → find (slice_cmp nat_cmp) name (entries_in dir es) ≡ find (slice_cmp nat_cmp) (dir ++ name) es
+  pub entry_found : (name : List ℕ) (es : List (List ℕ × List ℕ)) → find (slice_cmp nat_cmp) name (entries_in dir es) ≡ find (slice_cmp nat_cmp) (dir ++ name) es
   entry_found name [] = refl
   entry_found name (e ∷ es) = elim (bytes_eq (take 32 e.0) dir) as (λ b. bytes_eq (take 32 e.0) dir ≡ b →
       find (slice_cmp nat_cmp) name (cond b ((drop 32 e.0, e.1) ∷ entries_in dir es) (entries_in dir es)) ≡ cond (is_eq (slice_cmp nat_cmp (dir ++ name) e.0)) (Some e.1) (find (slice_cmp nat_cmp) (dir ++ name) es)) [

@@ -78,7 +78,7 @@ on_ok (Err e) P Q f p = p
 abbrev pub row : Vec ℕ Global × List ℕ → List ℕ × List ℕ
 row e = (e.0.items, e.1)
 
-abbrev vec_cmp : Vec ℕ Global → Vec ℕ Global → Ordering
+abbrev pub vec_cmp : Vec ℕ Global → Vec ℕ Global → Ordering
 vec_cmp a b = slice_cmp nat_cmp a.items b.items
 
 find-vec : (es : List (Vec ℕ Global × List ℕ)) (q : List ℕ) → find (slice_cmp nat_cmp) q (map row es) ≡ lookup (λ k. is_eq (slice_cmp nat_cmp q k.items)) es

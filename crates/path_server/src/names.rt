@@ -1,10 +1,13 @@
 //! The names of all directories.
 
-ghost use Rattle.std.specs.Prelude.{◌≡◌, ◌≤◌, ◌++◌, OnOk, length};
+ghost use Rattle.std.specs.Prelude.{◌≡◌, ◌≤◌, ◌++◌, IfOk, OnOk, length};
 ghost use Rattle.std.specs.FinMap as map;
+ghost use Rattle.server_trait.specs.Calls.{Lists};
+ghost use Rattle.path_server.specs.Paths.{names_of};
 
 use crate::key::PathKey;
-use nfs2_types::{Handle, NoMemory};
+use nfs2_types::{Blob, Handle, NoMemory};
+use server_trait::Listed;
 use std::alloc::Global;
 use std::collections::BTreeMap;
 use std::marker::Model;
@@ -65,5 +68,26 @@ impl PathNames {
             return Err(NoMemory);
         };
         Ok(())
+    }
+    /// The names of a directory, in the order of their bytes, with the handles to which they lead.
+    pub fn list(&self, alloc: Global, dir: &Handle) -> Result<Vec<Listed>, NoMemory>
+        ensures { IfOk result (λ rows. Lists rows.items (names_of self.now dir.now)) }
+    {
+        // In the order of the keys the directory's stand together, its handle alone before them.
+        let first = Vec::from_slice(alloc, dir)?;
+        let mut rows = Vec::new(alloc);
+        for (key, to) in self.keys.range(first..) {
+            let Some(name) = key.strip_prefix(dir) else {
+                return Ok(rows);
+            };
+            let row = Listed {
+                name: Blob::from_slice(alloc, name)?,
+                handle: *to,
+            };
+            let Ok(()) = rows.push(row) else {
+                return Err(NoMemory);
+            };
+        }
+        Ok(rows)
     }
 }

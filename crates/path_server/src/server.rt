@@ -320,9 +320,15 @@ impl FileServer for PathServer {
         }
     }
 
-    fn list(&mut self, _dir: &Handle) -> Result<Vec<Listed>, SrvErr> {
-        self.held = false;
-        Err(SrvErr::NoMemory)
+    fn list(&mut self, dir: &Handle) -> Result<Vec<Listed>, SrvErr> {
+        let _ = self.find_dir(dir)?;
+        match self.names.list(self.alloc, dir) {
+            Ok(rows) => Ok(rows),
+            Err(_) => {
+                self.held = false;
+                Err(SrvErr::NoMemory)
+            }
+        }
     }
 
     fn create(&mut self, dir: &Handle, name: &[u8]) -> Result<Handle, SrvErr> {
