@@ -1,4 +1,4 @@
--- A new directory: what it asks of server and table, and that they stand for the array which has it.
+-- A new object: what it asks of server and table, and that they stand for the array which has it.
 use Rattle.std.proofs.Common.{◌≡◌, ◌≢◌, inl, inr, ℕ, ◌+◌, ◌-◌, ◌^◌, ◌<◌, arith, true, false, List, [], length, set, Option, Some, None, IsSomeAnd, slice_get, slice_set, get_or, Fits, w32, refl, sym, ap, ◌∙◌, subst}
 use Rattle.std.specs.Prelude.{nat_lt}
 use Rattle.std.specs.Ordering.{nat_cmp}
@@ -24,7 +24,7 @@ use Rattle.abs_model.specs.Machine.{row_to, made}
 use Rattle.abs_model.specs.Machine as machine
 use Rattle.abs_model.proofs.Facts.{no_row}
 use Rattle.conf_map.specs.Fresh as fresh
-use Rattle.conf_map.specs.Stands.{handle_at, SameAttr, Leads, SameNames}
+use Rattle.conf_map.specs.Stands.{handle_at, SameAttr, Leads, SameNames, IsObject, HasRoom, Stands}
 use Rattle.conf_map.specs.Moves.{IsAt, SetsName, MakesNode}
 use Rattle.conf_map.specs.Tables.{index_in, touched, IsUnshared}
 use Rattle.conf_map.proofs.Agrees.{used_agrees, nodes_free}
@@ -37,14 +37,29 @@ use Rattle.conf_map.proofs.PlacedRows.{row_of-placed_same, row_of-placed_other}
 use Rattle.conf_map.proofs.RowFacts.{and_left, and_right}
 use Rattle.conf_map.proofs.Targets.{dir_map, lacks_agrees}
 use Rattle.wrap_names.specs.declared.place.Place.{Place}
-use Rattle.wrap_names.specs.declared.make.NewNode.{NewNode}
 use Rattle.wrap_names.specs.Places.{CanAdd}
 use Rattle.wrap_names.proofs.ByKind.{null_object, dir_parts, names_named}
-use Rattle.wrap_names.specs.News.{IsMade, IsAdded, AddsRow, empty_dir, with_dir}
+use Rattle.wrap_names.specs.News.{HasRoomFor, IsMade, IsAdded, AddsRow, node_with, with_new}
+use Rattle.wrap_names.specs.Objects.{New, new_dir, new_file, new_link, byte_count, object_of, content_of}
 
--- WHAT A NEW DIRECTORY ASKS
+-- THE NODE OF A NEW OBJECT
 
-module _ (s : Server) (table : ConfTable) (A : List Entry) (name : List ℕ) (p : Place) (c : CanAdd s table A name p) where
+is_object : (new : New) (t : Tree) (rows : List ConfEntry) (r : ConfEntry) (attr : Attr) (h : List ℕ) (n : Node) → r.handle ≡ Some h → node_at t h ≡ Some n → SameAttr attr r n →
+    n.content ≡ content_of new → IsObject t rows r (object_of new attr)
+is_object new_dir t rows r attr h n handle at same content = record {
+  handle = h;
+  node = n;
+  is_handle = handle;
+  is_node = at;
+  attr = same;
+  content = is_some_and (SameNames rows []) (ap names_in content) (λ x. subst (λ o. Leads rows o None) (sym (get-empty (slice_cmp nat_cmp) x)) tt);
+}
+is_object (new_file size) t rows r attr h n handle at same content = record { handle = h; node = n; is_handle = handle; is_node = at; attr = same; content = content }
+is_object (new_link text) t rows r attr h n handle at same content = record { handle = h; node = n; is_handle = handle; is_node = at; attr = same; content = content }
+
+-- WHAT A NEW OBJECT ASKS
+
+module _ (s : Server) (table : ConfTable) (A : List Entry) (name : List ℕ) (new : New) (p : Place) (c : CanAdd s table A name new p) where
   abbrev d : ℕ
   d = p.dir.index
 
@@ -91,8 +106,8 @@ module _ (s : Server) (table : ConfTable) (A : List Entry) (name : List ℕ) (p 
   pub can_lack : IsSomeAnd s.tree (λ t. LacksName t dh name)
   can_lack = is_some_and (λ t. LacksName t dh name) c.stands.has_tree ((lacks_agrees s.tree table A c.stands d dh rd nd e at_dir.2 c.is_dir name).1 lacks)
 
-  -- and the server has room for one directory more
-  pub can_hold : fresh.HasRoom s
+  -- and the server has room for one node more
+  pub can_hold : HasRoomFor s (byte_count new)
   can_hold =
       let few = nodes_free c.limits s.tree table A c.stands c.valid i c.index.is_free in
       let same = used_agrees c.limits s.tree table A c.stands c.valid in
@@ -100,7 +115,7 @@ module _ (s : Server) (table : ConfTable) (A : List Entry) (name : List ℕ) (p 
       let bytes = c.room.bytes in
       let space = c.index.space in
       let size = c.valid.size in
-      is_some_and (λ t. fresh.HoldsUpTo s.limits (len t.nodes + 1) (used t + 512)) c.stands.has_tree (omega (arith, few, nodes, size), omega (arith, same, bytes, space))
+      is_some_and (λ t. fresh.HoldsUpTo s.limits (len t.nodes + 1) (used t + (512 + byte_count new))) c.stands.has_tree (omega (arith, few, nodes, size), omega (arith, same, bytes, space))
 
   pub index_below : i < length table.rows.items
   index_below = let below = free_at.0 in let size = c.stands.size in omega (arith, below, size)
@@ -118,34 +133,37 @@ module _ (s : Server) (table : ConfTable) (A : List Entry) (name : List ℕ) (p 
 
   -- THE ADDITION
 
-  module _ (s' : Option Tree) (mode uid gid : ℕ) (new : NewNode)
-      (made_at : (t : Tree) → s.tree ≡ Some t → IsSomeAnd s' (IsMade t dh name mode uid gid new)) where
-    new_tree : (t' : Tree) × (s' ≡ Some t') × IsMade t dh name mode uid gid new t'
-    new_tree = some_and s' (IsMade t dh name mode uid gid new) (made_at t c.stands.has_tree)
+  module _ (s' : Option Tree) (attr : Attr) (h : List ℕ) (number : ℕ)
+      (made_at : (t : Tree) → s.tree ≡ Some t → IsSomeAnd s' (IsMade t dh name h (node_with number attr (content_of new)))) where
+    abbrev node : Node
+    node = node_with number attr (content_of new)
+
+    new_tree : (t' : Tree) × (s' ≡ Some t') × IsMade t dh name h node t'
+    new_tree = some_and s' (IsMade t dh name h node) (made_at t c.stands.has_tree)
 
     abbrev t' : Tree
     t' = new_tree.0
 
-    m : IsMade t dh name mode uid gid new t'
+    m : IsMade t dh name h node t'
     m = new_tree.2
 
     -- no row has the new handle
-    pub new_unshared : IsUnshared table.rows.items i (Some new.handle)
-    new_unshared k h is at =
-        let n = handle_node s.tree table A c.stands k h at in
+    pub new_unshared : IsUnshared table.rows.items i (Some h)
+    new_unshared k q is at =
+        let n = handle_node s.tree table A c.stands k q at in
         absurd (some_none (ap (node_at t) (some_same refl is ∙ some_same is refl ∙ some_same refl is) ∙ n.1) m.new_handle)
 
-    module _ (table' : ConfTable) (time : Time) (attr : Attr) (row r : ConfEntry) (read : r ≡ get_or table.rows.items i r)
-        (generation : row.generation ≡ r.generation + 1) (handle : row.handle ≡ Some new.handle) (parent : row.parent ≡ d)
-        (same : SameAttr attr row (empty_dir new.number mode uid gid)) (adds : AddsRow table table' d i row time) where
+    module _ (table' : ConfTable) (time : Time) (row r : ConfEntry) (read : r ≡ get_or table.rows.items i r)
+        (generation : row.generation ≡ r.generation + 1) (handle : row.handle ≡ Some h) (parent : row.parent ≡ d)
+        (same : SameAttr attr row node) (adds : AddsRow table table' d i row time) where
       abbrev A' : List Entry
-      A' = with_dir A p name time attr
+      A' = with_new A p name time (object_of new attr)
 
       abbrev ed : Entry
       ed = machine.with_names (placed (row_to name i ((entry_at A i).generation + 1))) time e
 
       abbrev ei : Entry
-      ei = made (Dir attr []) (entry_at A i)
+      ei = made (object_of new attr) (entry_at A i)
 
       abbrev to_row : NameRow
       to_row = row_to name i ((entry_at A i).generation + 1)
@@ -187,7 +205,7 @@ module _ (s : Server) (table : ConfTable) (A : List Entry) (name : List ℕ) (p 
       is_names : names_in nd.content ≡ Some names.0
       is_names = sym (names_at-node t dh nd at_dir.2.is_node) ∙ names.1
 
-      sets_name : SetsName t table A d name (Some new.handle) (Some to_row) t' table' A'
+      sets_name : SetsName t table A d name (Some h) (Some to_row) t' table' A'
       sets_name =
           let old = same_attr s.tree table A c.stands d dh rd nd e at_dir.2 in
           record {
@@ -201,12 +219,12 @@ module _ (s : Server) (table : ConfTable) (A : List Entry) (name : List ℕ) (p 
             names = names_of e;
             names' = placed to_row (names_of e);
             node_names = names.0;
-            node_names' = insert names.0 name new.handle;
+            node_names' = insert names.0 name h;
             before = subst (λ o. IsAt t table A d dh rd nd (record { generation = e.generation; object = o })) (dir_parts e.generation e.object c.is_dir) at_dir.2;
             is_dir = is_names;
-            node_now = m.dir_now nd at_dir.2.is_node ∙ ap Some (names_named nd.content names.0 name new.handle nd refl is_names);
-            name_now = get-insert_same names.0 name new.handle;
-            names_now = get-insert_other names.0 name new.handle;
+            node_now = m.dir_now nd at_dir.2.is_node ∙ ap Some (names_named nd.content names.0 name h nd refl is_names);
+            name_now = get-insert_same names.0 name h;
+            names_now = get-insert_other names.0 name h;
             row_now = row_dir;
             same_row = record { generation = refl; handle = refl; number = refl };
             parent = refl;
@@ -216,7 +234,7 @@ module _ (s : Server) (table : ConfTable) (A : List Entry) (name : List ℕ) (p 
             times = record { number = old.number; mode = old.mode; uid = old.uid; gid = old.gid; atime = old.atime; mtime = refl; ctime = refl };
           }
 
-      handle_here : handle_at table'.rows.items i ≡ Some new.handle
+      handle_here : handle_at table'.rows.items i ≡ Some h
       handle_here = handle_of_row table'.rows.items i row row_here ∙ handle
 
       handle_other : (k : ℕ) → k ≢ i → handle_at table'.rows.items k ≡ handle_at table.rows.items k
@@ -226,10 +244,10 @@ module _ (s : Server) (table : ConfTable) (A : List Entry) (name : List ℕ) (p 
         | inr not_d ↦ ap (option_and_then (λ (r : ConfEntry). r.handle)) (row_other k not_d not_i)
       ]
 
-      mapped_here : index_in table' new.handle ≡ Some i
-      mapped_here = (adds.in_step c.stands.placed.by_handle new.handle i).1 handle_here
+      mapped_here : index_in table' h ≡ Some i
+      mapped_here = (adds.in_step c.stands.placed.by_handle h i).1 handle_here
 
-      mapped_other : (q : List ℕ) → q ≢ new.handle → index_in table' q ≡ index_in table q
+      mapped_other : (q : List ℕ) → q ≢ h → index_in table' q ≡ index_in table q
       mapped_other q ne = by_new (index_in table' q) refl
         where
           step : (k : ℕ) → (index_in table' q ≡ Some k) → index_in table q ≡ Some k
@@ -255,8 +273,8 @@ module _ (s : Server) (table : ConfTable) (A : List Entry) (name : List ℕ) (p 
       makes : MakesNode t table A d name i t' table' A'
       unfolding sets_name
       makes = record {
-        handle = new.handle;
-        node = empty_dir new.number mode uid gid;
+        handle = h;
+        node = node;
         old_row = old_row.0;
         row = row;
         old_entry = entry_at A i;
@@ -282,20 +300,31 @@ module _ (s : Server) (table : ConfTable) (A : List Entry) (name : List ℕ) (p 
         by_handles = mapped_other;
         array = record { size = length-set (set A d ed) i ei ∙ length-set A d ed; others = entry_other };
         entry_now = entry_here;
-        object = record {
-          handle = new.handle;
-          node = empty_dir new.number mode uid gid;
-          is_handle = handle;
-          is_node = m.node_now;
-          attr = same;
-          content = λ x. subst (λ o. Leads table'.rows.items o None) (sym (get-empty (slice_cmp nat_cmp) x)) tt;
-        };
+        object = is_object new t' table'.rows.items row attr h node handle m.node_now same refl;
       }
 
-      -- they stand for the array with the new directory
-      pub dir_added : IsAdded A p name time attr s' table' (record { index = i; handle = new.handle })
-      dir_added = record {
+      -- they stand for the array with the new object
+      pub new_added : IsAdded A p name time (object_of new attr) s' table' (record { index = i; handle = h })
+      new_added = record {
         stands = stands_made s.tree s' table table' A A' t' d i name c.stands makes new_tree.1;
         live = handle_here;
         index = refl;
       }
+
+-- WHERE NOTHING HAS CHANGED
+
+-- what the server holds and can hold is the same, so the object can still have its place
+pub can_still : (s s' : Server) (table : ConfTable) (A : List Entry) (name : List ℕ) (new : New) (p : Place) → s'.tree ≡ s.tree → s'.limits ≡ s.limits → CanAdd s table A name new p → CanAdd s' table A name new p
+can_still s s' table A name new p same_tree same_limits c = record {
+  limits = c.limits;
+  within = c.within;
+  valid = c.valid;
+  stands = subst (λ s. Stands s table A) (sym same_tree) c.stands;
+  room = subst (HasRoom c.limits) (sym same_limits) c.room;
+  live = c.live;
+  is_dir = c.is_dir;
+  good = c.good;
+  lacks = c.lacks;
+  small = c.small;
+  index = c.index;
+}

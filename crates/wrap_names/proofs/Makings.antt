@@ -1,6 +1,6 @@
--- A call that makes a directory, from its place to its answer.
-use Rattle.std.proofs.Common.{◌≡◌, ℕ, List, [], ◌∷◌, ◌++◌, true, Option, Some, Result, Ok, Err, refl, sym, ap, ◌∙◌, subst}
-use Rattle.std.proofs.lemmas.List.{append-nil}
+-- A call that makes a new object, from its place to its answer.
+use Rattle.std.proofs.Common.{◌≡◌, ℕ, List, [], ◌∷◌, ◌≤◌, true, length, map, Option, Some, None, Result, Ok, sym, ap, ◌∙◌, subst}
+use Rattle.std.specs.Prelude.{◌&&◌, nat_le, unwrap_or, if◌then◌else◌}
 use Rattle.nfs2_types.specs.declared.Limits.{Limits}
 use Rattle.nfs2_types.specs.declared.Cred.{Cred}
 use Rattle.nfs2_types.specs.declared.Time.{Time}
@@ -8,90 +8,148 @@ use Rattle.nfs2_types.specs.declared.Sattr.{Sattr}
 use Rattle.nfs2_types.specs.declared.Stat.{Stat}
 use Rattle.nfs2_types.specs.declared.NfsResult.{NfsResult}
 use Rattle.nfs2_types.specs.declared.NfsResult.TheVariants as results
-use Rattle.nfs2_types.specs.Call.{make_dir, call_fits}
+use Rattle.nfs2_types.specs.Call.{Call, symlink, make_dir, call_fits, sattr_fits}
 use Rattle.nfs2_types.specs.Times.{is_time}
 use Rattle.server_trait.specs.Tree.{Tree, Server}
 use Rattle.server_trait.specs.declared.server.ServerLimits.{ServerLimits}
+use Rattle.server_trait.specs.declared.bench.ConfEntry.{ConfEntry}
 use Rattle.server_trait.specs.declared.bench.ConfTable.{ConfTable}
+use Rattle.abs_model.specs.declared.entry.Attr.{Attr}
+use Rattle.abs_model.specs.declared.entry.Object.{Object}
 use Rattle.abs_model.specs.declared.entry.Entry.{Entry}
+use Rattle.abs_model.specs.declared.entry.Change.{Change}
 use Rattle.abs_model.specs.Objects.{new_attr}
-use Rattle.abs_model.specs.Machine.{node_at, array_after, result_of, told}
+use Rattle.abs_model.specs.Array.{at, changed, free, target}
+use Rattle.abs_model.specs.Machine.{first_of, refusals, changes, adds, found_or_made, answer, node_at, array_after, result_of, told}
 use Rattle.abs_model.specs.Valid.{Valid}
 use Rattle.abs_model.proofs.Law.{stays_valid}
-use Rattle.conf_map.proofs.Answered as answers
+use Rattle.abs_model.proofs.Named.{at-live}
+use Rattle.conf_map.proofs.ArrayFacts.{le_of}
+use Rattle.conf_map.proofs.RowFacts.{and_left, and_right}
+use Rattle.conf_map.proofs.Answered.{answered, answered_array, answered_told}
 use Rattle.conf_map.specs.Notice.{NoticedAll}
 use Rattle.conf_map.specs.Stands.{StandsValid, StandValid, AreWithin, HasRoom, Stands}
 use Rattle.conf_map.specs.declared.table.Located.{Located}
 use Rattle.wrap_names.specs.declared.place.Place.{Place}
-use Rattle.wrap_names.specs.Places.{refused, PlaceFound, IsPlace, CanAdd}
-use Rattle.wrap_names.specs.News.{IsAdded, with_dir}
-use Rattle.wrap_names.proofs.Refusals.{array_is, told_are, result_is}
+use Rattle.wrap_names.specs.Places.{PlaceFound, IsPlace, CanAdd}
+use Rattle.wrap_names.specs.News.{IsAdded, added, with_new}
+use Rattle.wrap_names.specs.Objects.{New, new_dir, new_link, default_mode, byte_count, object_of, IsSmall}
+use Rattle.wrap_names.proofs.Refusals.{not_refused}
 
-module _ (limits : Limits) (s : Option Tree) (table : ConfTable) (cred : Cred) (t : Time) (dir name : List ℕ) (sattr : Sattr) (r : Result Place Stat)
-    (found : (A : List Entry) → StandsValid limits s table A → PlaceFound A limits table.rows.items dir name r) where
-  module _ (stat : Stat) (is : r ≡ Err stat) (A : List Entry) (k : StandsValid limits s table A) where
-    first : refused A limits dir name ≡ Some stat
-    first = subst (PlaceFound A limits table.rows.items dir name) is (found A k)
+-- CALLS THAT MAKE
 
-    -- a refused call answers with its status
-    pub refusal_answers : results.Refused stat ≡ result_of A limits cred t (make_dir dir name sattr)
-    refusal_answers = sym (answers.refused A limits cred t (make_dir dir name sattr) stat first)
+-- the attributes of a new object, and the object
+abbrev attr_for : New → Cred → Time → Sattr → Attr
+attr_for new cred t sattr = new_attr (default_mode new) cred t sattr
 
-    pub refusal_stands : (s' : Option Tree) → s' ≡ s → Stands s' table (array_after A limits cred t (make_dir dir name sattr))
-    refusal_stands s' same = subst (λ s. Stands s table (array_after A limits cred t (make_dir dir name sattr))) (sym same) (subst (Stands s table) (sym (answers.refused_array A limits cred t (make_dir dir name sattr) stat first)) k.stands)
+abbrev object_for : New → Cred → Time → Sattr → Object
+object_for new cred t sattr = object_of new (attr_for new cred t sattr)
 
-    pub refusal_told : (old : List ℕ) → old ≡ old ++ told A limits cred t (make_dir dir name sattr)
-    refusal_told old = sym (append-nil old) ∙ ap (λ l. old ++ l) (sym (answers.refused_told A limits cred t (make_dir dir name sattr) stat first))
+-- the call is not refused, and a new object takes its place
+pub record MakesNew (A : List Entry) (limits : Limits) (cred : Cred) (t : Time) (call : Call) (rows : List ConfEntry) (dir name : List ℕ) (sattr : Sattr) (new : New) (p : Place) : Type 0 where
+  pub place : IsPlace A limits rows dir name (byte_count new) p
+  pub none : first_of (refusals A limits call) ≡ None
+  pub changes_are : changes A cred t call ≡ added A p.dir.index p.index name t (object_for new cred t sattr)
 
-    pub refusal_noticed : {M : Type 0} (noticed : M → List Entry → ℕ → M → Type 0) (saver : M) → NoticedAll noticed A saver (told A limits cred t (make_dir dir name sattr)) saver
-    refusal_noticed noticed saver = subst (λ l. NoticedAll noticed A saver l saver) (sym (answers.refused_told A limits cred t (make_dir dir name sattr) stat first)) refl
+module _ (A : List Entry) (limits : Limits) (rows : List ConfEntry) (dir name : List ℕ) (bytes : ℕ) (p : Place) (c : IsPlace A limits rows dir name bytes p) where
+  at_dir : at A dir ≡ p.dir.index
+  at_dir = at-live A dir p.dir.index c.in_dir.is_index
 
-  module _ (p : Place) (is : r ≡ Ok p) where
-    place : (A : List Entry) → StandsValid limits s table A → IsPlace A limits table.rows.items dir name p
-    place A k = subst (PlaceFound A limits table.rows.items dir name) is (found A k)
+  at_new : unwrap_or (free A) (length A) ≡ p.index
+  at_new = ap (λ o. unwrap_or o (length A)) c.index.is_free
 
-    -- the objects that are told
-    pub making_told : (A : List Entry) → StandsValid limits s table A → told A limits cred t (make_dir dir name sattr) ≡ p.dir.index ∷ p.index ∷ []
-    making_told A k = told_are A limits cred t dir name sattr table.rows.items p (place A k)
+  -- what comes to an array
+  pub adds_are : (t : Time) (new : Object) → adds A (at A dir) name t new ≡ added A p.dir.index p.index name t new
+  adds_are t new = ap (λ d. added A d (unwrap_or (free A) (length A)) name t new) at_dir ∙ ap (λ i. added A p.dir.index i name t new) at_new
 
-    module _ (s1 : Server) (same_tree : s1.tree ≡ s) (most : ServerLimits) (same_limits : s1.limits ≡ most) (room : HasRoom limits most) where
-      -- the new directory can have its place
-      pub can_add : (A : List Entry) → StandsValid limits s table A → CanAdd s1 table A name p
-      can_add A k =
-          let c = place A k in
-          record {
-            limits = limits;
-            valid = k.valid;
-            stands = subst (λ s. Stands s table A) (sym same_tree) k.stands;
-            room = subst (HasRoom limits) (sym same_limits) room;
-            live = c.in_dir.live;
-            is_dir = c.in_dir.is_dir;
-            good = c.good;
-            lacks = c.lacks;
-            index = c.index;
-          }
+  -- the name leads to the new object
+  pub made_at : found_or_made A (at A dir) name ≡ p.index
+  made_at = ap (λ d. found_or_made A d name) at_dir ∙ ap (λ b. if b then target A p.dir.index name else unwrap_or (free A) (length A)) c.lacks ∙ at_new
 
-      module _ (s' : Option Tree) (table' : ConfTable) (d : Located) (added : (A : List Entry) → CanAdd s1 table A name p → IsAdded A p name t (new_attr 493 cred t sattr) s' table' d)
-          (A : List Entry) (k : StandsValid limits s table A) where
-        is_added : IsAdded A p name t (new_attr 493 cred t sattr) s' table' d
-        is_added = added A (can_add A k)
+module _ (A : List Entry) (limits : Limits) (cred : Cred) (t : Time) (rows : List ConfEntry) (dir name : List ℕ) (sattr : Sattr) {r : Result Place Stat} {p : Place} (is : r ≡ Ok p) where
+  -- MKDIR
+  pub dir_makes : PlaceFound A limits rows dir name 0 r → MakesNew A limits cred t (make_dir dir name sattr) rows dir name sattr new_dir p
+  dir_makes found =
+      let c : IsPlace A limits rows dir name 0 p = subst (PlaceFound A limits rows dir name 0) is found in
+      record { place = c; none = not_refused A limits rows dir name 0 p c; changes_are = adds_are A limits rows dir name 0 p c t (object_for new_dir cred t sattr) }
 
-        array : array_after A limits cred t (make_dir dir name sattr) ≡ with_dir A p name t (new_attr 493 cred t sattr)
-        array = array_is A limits cred t dir name sattr table.rows.items p (place A k)
+  -- SYMLINK
+  pub link_makes : (text : List ℕ) → PlaceFound A limits rows dir name (length text) r → MakesNew A limits cred t (symlink dir name text sattr) rows dir name sattr (new_link text) p
+  link_makes text found =
+      let c : IsPlace A limits rows dir name (length text) p = subst (PlaceFound A limits rows dir name (length text)) is found in
+      record {
+        place = c;
+        none = not_refused A limits rows dir name (length text) p c;
+        changes_are = adds_are A limits rows dir name (length text) p c t (object_for (new_link text) cred t sattr);
+      }
 
-        pub making_stands : (s'' : Option Tree) → s'' ≡ s' → Stands s'' table' (array_after A limits cred t (make_dir dir name sattr))
-        making_stands s'' same = subst (λ s. Stands s table' (array_after A limits cred t (make_dir dir name sattr))) (sym same) (subst (Stands s' table') (sym array) is_added.stands)
+-- a link's text
+pub text_small : (dir name text : List ℕ) (sattr : Sattr) → call_fits (symlink dir name text sattr) ≡ true → length text ≤ 1024
+text_small dir name text sattr fits =
+    let short = and_right (nat_le (length name) 255) (nat_le (length text) 1024) (and_left (nat_le (length name) 255 && nat_le (length text) 1024) (sattr_fits sattr) fits) in
+    le_of (length text) 1024 short
 
-        module _ (within : AreWithin limits) (moment : is_time t ≡ true) (fits : call_fits (make_dir dir name sattr) ≡ true) where
-          -- tree and table stand for a valid array again
-          pub making_again : StandValid s' table' (with_dir A p name t (new_attr 493 cred t sattr))
-          making_again = record {
-            limits = limits;
-            within = within;
-            valid = subst (Valid limits) array (stays_valid limits A cred t (make_dir dir name sattr) moment fits k.valid);
-            stands = is_added.stands;
-          }
+-- WHAT THEY ASK, AND WHAT THEY DO
 
-          -- the call answers with the new directory
-          pub making_answers : (node : NfsResult) → ((A : List Entry) → StandValid s' table' A → node ≡ node_at A d.index) → node ≡ result_of A limits cred t (make_dir dir name sattr)
-          making_answers node shown = shown _ making_again ∙ ap (node_at (with_dir A p name t (new_attr 493 cred t sattr))) is_added.index ∙ sym (result_is A limits cred t dir name sattr table.rows.items p (place A k))
+module _ {A : List Entry} {limits : Limits} {cred : Cred} {t : Time} {call : Call} {rows : List ConfEntry} {dir name : List ℕ} {sattr : Sattr} {new : New} {p : Place}
+    (m : MakesNew A limits cred t call rows dir name sattr new p) where
+  array : array_after A limits cred t call ≡ with_new A p name t (object_for new cred t sattr)
+  array = answered_array A limits cred t call m.none ∙ ap (λ cs. changed cs A) m.changes_are
+
+  -- the directory and the new object are told
+  pub making_told : told A limits cred t call ≡ p.dir.index ∷ p.index ∷ []
+  making_told = answered_told A limits cred t call m.none ∙ ap (map (λ (c : Change). c.index)) m.changes_are
+
+  pub making_noticed : {M : Type 0} (noticed : M → List Entry → ℕ → M → Type 0) (old new : M) → NoticedAll noticed A old (p.dir.index ∷ p.index ∷ []) new → NoticedAll noticed A old (told A limits cred t call) new
+  making_noticed noticed old new = subst (λ l. NoticedAll noticed A old l new) (sym making_told)
+
+  -- the call answers without it
+  pub making_done : answer A (array_after A limits cred t call) limits call ≡ results.Done → results.Done ≡ result_of A limits cred t call
+  making_done done = sym (answered A limits cred t call m.none ∙ done)
+
+module _ {A : List Entry} {limits : Limits} {cred : Cred} {t : Time} {call : Call} {table : ConfTable} {dir name : List ℕ} {sattr : Sattr} {new : New} {p : Place}
+    (m : MakesNew A limits cred t call table.rows.items dir name sattr new p) where
+  module _ (k : Valid limits A) (within : AreWithin limits) (s : Server) (stands : Stands s.tree table A) (room : HasRoom limits s.limits) (small : IsSmall new) where
+    -- a new object can have its place
+    pub can_add : CanAdd s table A name new p
+    can_add = record {
+      limits = limits;
+      within = within;
+      valid = k;
+      stands = stands;
+      room = room;
+      live = m.place.in_dir.live;
+      is_dir = m.place.in_dir.is_dir;
+      good = m.place.good;
+      lacks = m.place.lacks;
+      small = small;
+      index = m.place.index;
+    }
+
+    module _ {s' : Option Tree} {table' : ConfTable} {d : Located} {attr : Attr} (same : attr ≡ attr_for new cred t sattr)
+        (add : (A : List Entry) → CanAdd s table A name new p → IsAdded A p name attr.ctime (object_of new attr) s' table' d) where
+      is_added : IsAdded A p name t (object_for new cred t sattr) s' table' d
+      is_added = subst (λ (a : Attr). IsAdded A p name a.ctime (object_of new a) s' table' d) same (add A can_add)
+
+      pub making_stands : (s'' : Option Tree) → s'' ≡ s' → Stands s'' table' (array_after A limits cred t call)
+      making_stands s'' same = subst (λ s. Stands s table' (array_after A limits cred t call)) (sym same) (subst (Stands s' table') (sym (array m)) is_added.stands)
+
+      module _ (moment : is_time t ≡ true) (fits : call_fits call ≡ true) where
+        again : StandValid s' table' (with_new A p name t (object_for new cred t sattr))
+        again = record {
+          limits = limits;
+          within = within;
+          valid = subst (Valid limits) (array m) (stays_valid limits A cred t call moment fits k);
+          stands = is_added.stands;
+        }
+
+        -- tree and table stand for a valid array again
+        pub making_again : (B : List Entry) × StandValid s' table' B
+        making_again = (with_new A p name t (object_for new cred t sattr), again)
+
+        -- the call answers with the new object
+        pub making_answers : ((B : List Entry) → answer A B limits call ≡ node_at B (found_or_made A (at A dir) name)) →
+            (node : NfsResult) → ((B : List Entry) → StandValid s' table' B → node ≡ node_at B d.index) → node ≡ result_of A limits cred t call
+        making_answers answers node shown =
+            shown _ again ∙ ap (node_at (with_new A p name t (object_for new cred t sattr))) (is_added.index ∙ sym (made_at A limits table.rows.items dir name (byte_count new) p m.place))
+            ∙ ap (λ B. node_at B (found_or_made A (at A dir) name)) (sym (array m)) ∙ sym (answers (array_after A limits cred t call)) ∙ sym (answered A limits cred t call m.none)

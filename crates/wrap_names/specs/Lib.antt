@@ -1,3 +1,4 @@
 pub mod Kinds
 pub mod News
+pub mod Objects
 pub mod Places

@@ -1,9 +1,13 @@
 //! Procedures that change names, over a boxed server.
 #![tactic(auto)]
 
+mod calls;
 mod make;
-mod names;
+mod make_dir;
+mod node;
+mod object;
 mod place;
+mod symlink;
 mod tell;
 
-pub use names::names_proc;
+pub use calls::names_proc;
