@@ -5,7 +5,7 @@ use Rattle.nfs2_types.specs.declared.Time.{Time}
 use Rattle.nfs2_types.specs.declared.Cred.{Cred}
 use Rattle.nfs2_types.specs.declared.Word.{Word}
 use Rattle.nfs2_types.specs.declared.Word.TheVariants as words
-use Rattle.nfs2_types.specs.Call.{Call, null, root, write_cache, get_attr, set_attr, lookup, read_link, read, write, make_dir, read_dir, stat_fs}
+use Rattle.nfs2_types.specs.Call.{Call, null, root, write_cache, get_attr, set_attr, lookup, read_link, read, write, symlink, make_dir, read_dir, stat_fs}
 use Rattle.xdr_core.specs.Grammar.{Stop, reads_all}
 use Rattle.rpc_core.specs.declared.CallHead.{CallHead}
 use Rattle.rpc_core.specs.declared.CallHead.TheVariants as heads
@@ -71,6 +71,7 @@ is_built_call (read_link node) = true
 is_built_call (read file offset count) = true
 is_built_call write_cache = true
 is_built_call (write file offset bytes) = true
+is_built_call (symlink dir name text sattr) = true
 is_built_call (make_dir dir name sattr) = true
 is_built_call (read_dir dir cookie count) = true
 is_built_call (stat_fs node) = true
