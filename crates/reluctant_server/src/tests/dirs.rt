@@ -4,14 +4,15 @@ ghost use Rattle.std.specs.Prelude.{OnOk};
 ghost use Rattle.reluctant_server.specs.Ready.{IsReady};
 
 use super::service::Service;
-use super::words::{A, B, DOT, DOTS, EMPTY, KEEP, L, ROOT, SLASH, STALE, node, size};
+use super::words::{A, B, DOT, DOTS, EMPTY, KEEP, L, ROOT, SLASH, STALE, size};
 use server_trait::{FileServer, Srv};
 use std::alloc::Global;
 use std::test::Fail;
 
 /// The directory "a" of index 1, and "b" in it of index 2.
-const OUTER: [u32; 8] = node(1, 1);
-const INNER: [u32; 8] = node(2, 1);
+const OUTER: [u32; 8] = [0x42415345, 1, 1, 0, 0, 0, 0, 0];
+
+const INNER: [u32; 8] = [0x42415345, 2, 1, 0, 0, 0, 0, 0];
 
 /// Calls without a result, and the root by itself.
 pub fn looked_at(alloc: Global, service: &mut Service) -> Result<(), Fail>
@@ -50,7 +51,12 @@ pub fn made(alloc: Global, service: &mut Service) -> Result<(), Fail>
     service.gives(alloc, 0, 4, &[&OUTER, &DOTS])?;
     service.gives(alloc, 0, 4, &[&INNER, &DOTS])?;
     service.gives(alloc, 0, 4, &[&OUTER, &B])?;
-    service.gives(alloc, 0, 2, &[&OUTER, &[0o750, 5, 6, !0, 0, 1_000_000, 9, 9]])?;
+    service.gives(
+        alloc,
+        0,
+        2,
+        &[&OUTER, &[0o750, 5, 6, !0, 0, 1_000_000, 9, 9]],
+    )?;
     service.gives(alloc, 0, 2, &[&OUTER, &KEEP])?;
     service.gives(alloc, 21, 2, &[&OUTER, &size(0)])?;
     service.gives(alloc, 70, 2, &[&STALE, &KEEP])?;

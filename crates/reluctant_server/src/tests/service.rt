@@ -49,6 +49,29 @@ fn plain(
     Ok(plain_step(alloc, array, limits, cred, time, &args)?)
 }
 
+/// The service's word on a call.
+fn served(
+    alloc: Global,
+    server: &mut Srv,
+    table: &mut ConfTable,
+    limits: &Limits,
+    secs: u32,
+    call: &[u8],
+) -> Result<Word, Fail>
+    requires { IsReady limits.now (state server.old) table.old }
+    ensures { OnOk result (IsReady limits.now (state server.new) table.new) }
+{
+    if !is_built(call) {
+        return Err("not built".into());
+    }
+    let time = Time { secs, micros: 0 };
+    let mut told = TouchList::new(alloc);
+    match answer(alloc, server, table, limits, time, call, &mut told) {
+        Ok(word) => Ok(word),
+        Err(_) => Err("the server failed".into()),
+    }
+}
+
 /// What an accepted reply says.
 fn said(alloc: Global, xid: u32, proc: u32, word: &Word) -> Result<NfsResult, Fail>
     requires { proc ≤ 17 }
@@ -58,7 +81,7 @@ fn said(alloc: Global, xid: u32, proc: u32, word: &Word) -> Result<NfsResult, Fa
     };
     let front = bytes_of(alloc, &[&[xid, 1, 0, 0, 0, 0]])?;
     let text = reply.as_slice();
-    if text.len() < 24 || text[..24] != *front.as_slice() {
+    if text.len() < 24 || &text[..24] != front.as_slice() {
         return Err("not accepted".into());
     }
     match read_result(alloc, proc, &text[24..]) {
@@ -68,8 +91,8 @@ fn said(alloc: Global, xid: u32, proc: u32, word: &Word) -> Result<NfsResult, Fa
 }
 
 /// The status of a result; that of a call without one is OK.
-fn status_of(result: &NfsResult) -> u32 {
-    match result {
+fn status_of(found: &NfsResult) -> u32 {
+    match found {
         NfsResult::Refused(stat) => stat.0,
         _ => 0,
     }
@@ -123,34 +146,32 @@ impl Service {
         requires proc { proc ≤ 17 }
         ensures { OnOk result (IsReady self.new.limits (⟦<Srv as FileServer>⟧.state self.new.server) self.new.table) }
     {
-        let secs = self.calls.saturating_add(1);
+        self.calls = self.calls.saturating_add(1);
         let cred = Cred {
             uid: 7,
             gid: 8,
             gids: Blob16::new(),
         };
         let args = bytes_of(alloc, parts)?;
-        let call = write_call(alloc, secs, 100003, 2, proc, &cred, &args)?;
-        if !is_built(&call) {
-            return Err("not built".into());
-        }
-        let time = Time { secs, micros: 0 };
-        let mut told = TouchList::new(alloc);
-        let word = match answer(
+        let expected = plain(
+            alloc,
+            &mut self.array,
+            &self.limits,
+            &cred,
+            self.calls,
+            proc,
+            &args,
+        )?;
+        let call = write_call(alloc, self.calls, 100003, 2, proc, &cred, &args)?;
+        let word = served(
             alloc,
             &mut self.server,
             &mut self.table,
             &self.limits,
-            time,
+            self.calls,
             &call,
-            &mut told,
-        ) {
-            Ok(word) => word,
-            Err(_) => return Err("the server failed".into()),
-        };
-        self.calls = secs;
-        let found = said(alloc, secs, proc, &word)?;
-        let expected = plain(alloc, &mut self.array, &self.limits, &cred, secs, proc, &args)?;
+        )?;
+        let found = said(alloc, self.calls, proc, &word)?;
         if found != expected {
             return Err("another result than the plain machine's".into());
         }

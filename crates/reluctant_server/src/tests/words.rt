@@ -1,29 +1,30 @@
 //! Words of arguments.
 
-/// The handle of an object.
-pub const fn node(index: u32, generation: u32) -> [u32; 8] {
-    [0x42415345, index, generation, 0, 0, 0, 0, 0]
-}
-
 /// The handle of the root.
-pub const ROOT: [u32; 8] = node(0, 1);
+pub const ROOT: [u32; 8] = [0x42415345, 0, 1, 0, 0, 0, 0, 0];
 
 /// A handle that names nothing.
-pub const STALE: [u32; 8] = node(0, 2);
+pub const STALE: [u32; 8] = [0x42415345, 0, 2, 0, 0, 0, 0, 0];
 
 /// A sattr that leaves all alone.
 pub const KEEP: [u32; 8] = [!0; 8];
 
 /// A sattr with a size alone.
-pub const fn size(size: u32) -> [u32; 8] {
+pub fn size(size: u32) -> [u32; 8] {
     [!0, !0, !0, size, !0, !0, !0, !0]
 }
 
 /// Names of one letter, and others: ".", "..", "a/b", and no bytes.
 pub const A: [u32; 2] = [1, 0x61000000];
+
 pub const B: [u32; 2] = [1, 0x62000000];
+
 pub const L: [u32; 2] = [1, 0x6c000000];
+
 pub const DOT: [u32; 2] = [1, 0x2e000000];
+
 pub const DOTS: [u32; 2] = [2, 0x2e2e0000];
+
 pub const SLASH: [u32; 2] = [3, 0x612f6200];
+
 pub const EMPTY: [u32; 1] = [0];
