@@ -65,6 +65,13 @@ module _ (held : Bool) (limits : ServerLimits) (next bytes : ℕ) (k : Kept) (so
   pub stays : held ≡ true → tree_of held k ≡ Some now
   stays is = ap (λ b. cond b (Some now) None) is
 
+  -- what is told where a node was not found
+  pub told_stale : (h : List ℕ) → get k.nodes h ≡ None → (t : Tree) → tree_of held k ≡ Some t → IsStale t h × (tree_of held k ≡ Some t)
+  told_stale h is = held_tree held now (λ t. IsStale t h × (tree_of held k ≡ Some t)) (λ there. (node_at-none k h is, stays there))
+
+  told_not_dir : (h : List ℕ) → IsSomeAnd (get k.nodes h) (λ p. p.kind ≢ Dir) → (t : Tree) → tree_of held k ≡ Some t → IsNo names_in t h × (tree_of held k ≡ Some t)
+  told_not_dir h other = held_tree held now (λ t. IsNo names_in t h × (tree_of held k ≡ Some t)) (λ there. (no_view names_in Dir k h no_names other, stays there))
+
   -- ANY NODE
 
   pub attr-ok : (h : List ℕ) (p : PathNode) (size links : ℕ) (time : Time) → get k.nodes h ≡ Some p →
@@ -93,20 +100,17 @@ module _ (held : Bool) (limits : ServerLimits) (next bytes : ℕ) (k : Kept) (so
       }
 
   pub attr-stale : (h : List ℕ) → get k.nodes h ≡ None → Attr the_server h (Err Stale) the_server
-  attr-stale h is = record { tree = held_tree held now (λ t. IsStale t h × (tree_of held k ≡ Some t)) (λ there. (node_at-none k h is, stays there)); limits = refl; faults = refl }
+  attr-stale h is = record { tree = told_stale h is; limits = refl; faults = refl }
 
   pub set_attr-stale : (h : List ℕ) (mode uid gid : ℕ) → get k.nodes h ≡ None → SetAttr the_server h mode uid gid (Err Stale) the_server
-  set_attr-stale h mode uid gid is = record { tree = held_tree held now (λ t. IsStale t h × (tree_of held k ≡ Some t)) (λ there. (node_at-none k h is, stays there)); limits = refl; faults = refl }
+  set_attr-stale h mode uid gid is = record { tree = told_stale h is; limits = refl; faults = refl }
 
   -- NAMES
 
-  pub not_dir : (h : List ℕ) → IsSomeAnd (get k.nodes h) (λ p. p.kind ≢ Dir) → IsNo names_in now h
-  not_dir h other = no_view names_in Dir k h no_names other
-
   pub lookup-err : (h name : List ℕ) (e : SrvErr) → IsFoundDir k.nodes h (Err e) → Lookup the_server h name (Err e) the_server
   lookup-err h name e found = found_dir_error k.nodes h e found (λ e. Lookup the_server h name (Err e) the_server)
-      (λ is. record { tree = held_tree held now (λ t. IsStale t h × (tree_of held k ≡ Some t)) (λ there. (node_at-none k h is, stays there)); limits = refl; faults = refl })
-      (λ is. record { tree = held_tree held now (λ t. IsNo names_in t h × (tree_of held k ≡ Some t)) (λ there. (not_dir h is, stays there)); limits = refl; faults = refl })
+      (λ is. record { tree = told_stale h is; limits = refl; faults = refl })
+      (λ is. record { tree = told_not_dir h is; limits = refl; faults = refl })
 
   pub lookup-ok : (h name x : List ℕ) (p : PathNode) → (get k.nodes h ≡ Some p) × (p.kind ≡ Dir) → get k.paths (h ++ name) ≡ Some x → Lookup the_server h name (Ok x) the_server
   lookup-ok h name x p is leads = record {
@@ -127,8 +131,8 @@ module _ (held : Bool) (limits : ServerLimits) (next bytes : ℕ) (k : Kept) (so
 
   pub list-err : (h : List ℕ) (e : SrvErr) → IsFoundDir k.nodes h (Err e) → ListNames the_server h (Err e) the_server
   list-err h e found = found_dir_error k.nodes h e found (λ e. ListNames the_server h (Err e) the_server)
-      (λ is. record { tree = held_tree held now (λ t. IsStale t h × (tree_of held k ≡ Some t)) (λ there. (node_at-none k h is, stays there)); limits = refl; faults = refl })
-      (λ is. record { tree = held_tree held now (λ t. IsNo names_in t h × (tree_of held k ≡ Some t)) (λ there. (not_dir h is, stays there)); limits = refl; faults = refl })
+      (λ is. record { tree = told_stale h is; limits = refl; faults = refl })
+      (λ is. record { tree = told_not_dir h is; limits = refl; faults = refl })
 
   pub list-ok : (h : List ℕ) (p : PathNode) (rows : Vec Listed Global) → (get k.nodes h ≡ Some p) × (p.kind ≡ Dir) → Lists rows.items (names_of k.paths h) → ListNames the_server h (Ok rows) the_server
   list-ok h p rows is told = record {
@@ -144,8 +148,8 @@ module _ (held : Bool) (limits : ServerLimits) (next bytes : ℕ) (k : Kept) (so
   module _ (content : Content) (more : ℕ) (h name : List ℕ) where
     pub make-err : (e : SrvErr) → IsFoundDir k.nodes h (Err e) → Make content more the_server h name (Err e) the_server
     make-err e found = found_dir_error k.nodes h e found (λ e. Make content more the_server h name (Err e) the_server)
-        (λ is. record { tree = held_tree held now (λ t. IsStale t h × (tree_of held k ≡ Some t)) (λ there. (node_at-none k h is, stays there)); limits = refl; faults = refl })
-        (λ is. record { tree = held_tree held now (λ t. IsNo names_in t h × (tree_of held k ≡ Some t)) (λ there. (not_dir h is, stays there)); limits = refl; faults = refl })
+        (λ is. record { tree = told_stale h is; limits = refl; faults = refl })
+        (λ is. record { tree = told_not_dir h is; limits = refl; faults = refl })
 
     pub make-exists : (x : List ℕ) (p : PathNode) → (get k.nodes h ≡ Some p) × (p.kind ≡ Dir) → get k.paths (h ++ name) ≡ Some x → Make content more the_server h name (Err Exists) the_server
     make-exists x p is leads = record {

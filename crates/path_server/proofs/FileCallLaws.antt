@@ -19,7 +19,7 @@ use Rattle.path_server.specs.Kept.{Kept, IsFound, the_tree, tree_of}
 use Rattle.path_server.specs.Sound.{IsSound}
 use Rattle.path_server.specs.declared.node.PathNode.{PathNode}
 use Rattle.path_server.proofs.ByteLaws.{overwritten_is}
-use Rattle.path_server.proofs.CallLaws.{held_tree, found_error, no_view}
+use Rattle.path_server.proofs.CallLaws.{held_tree, found_error, no_view, stays, told_stale}
 use Rattle.path_server.proofs.ContentLaws.{no_bytes, no_text}
 use Rattle.path_server.proofs.FileLaws.{same_change}
 use Rattle.path_server.proofs.NodeLaws.{node_at-none}
@@ -32,36 +32,36 @@ module _ (held : Bool) (limits : ServerLimits) (next bytes : ℕ) (k : Kept) (so
   abbrev the_server : Server
   the_server = record { tree = tree_of held k; limits = limits; faults = 0 }
 
-  stays : held ≡ true → tree_of held k ≡ Some now
-  stays is = ap (λ b. cond b (Some now) None) is
-
-  no_file : IsSomeAnd (get k.nodes h) (λ p. p.kind ≢ File) → IsNo bytes_in now h
-  no_file other = no_view bytes_in File k h no_bytes other
-
-  no_link : IsSomeAnd (get k.nodes h) (λ p. p.kind ≢ Link) → IsNo text_in now h
-  no_link other = no_view text_in Link k h no_text other
+  there_is : held ≡ true → tree_of held k ≡ Some now
+  there_is = stays held limits next bytes k sound
 
   -- ERRORS
 
+  told_no_file : IsSomeAnd (get k.nodes h) (λ p. p.kind ≢ File) → (t : Tree) → tree_of held k ≡ Some t → IsNo bytes_in t h × (tree_of held k ≡ Some t)
+  told_no_file other = held_tree held now (λ t. IsNo bytes_in t h × (tree_of held k ≡ Some t)) (λ there. (no_view bytes_in File k h no_bytes other, there_is there))
+
+  told_no_link : IsSomeAnd (get k.nodes h) (λ p. p.kind ≢ Link) → (t : Tree) → tree_of held k ≡ Some t → IsNo text_in t h × (tree_of held k ≡ Some t)
+  told_no_link other = held_tree held now (λ t. IsNo text_in t h × (tree_of held k ≡ Some t)) (λ there. (no_view text_in Link k h no_text other, there_is there))
+
   pub read-err : (offset count : ℕ) (e : SrvErr) → IsFound k.nodes h File (Err e) → Read the_server h offset count (Err e) the_server
   read-err offset count e found = found_error k.nodes h File e found (λ e. Read the_server h offset count (Err e) the_server)
-      (λ is. record { tree = held_tree held now (λ t. IsStale t h × (tree_of held k ≡ Some t)) (λ there. (node_at-none k h is, stays there)); limits = refl; faults = refl })
-      (λ is. record { tree = held_tree held now (λ t. IsNo bytes_in t h × (tree_of held k ≡ Some t)) (λ there. (no_file is, stays there)); limits = refl; faults = refl })
+      (λ is. record { tree = told_stale held limits next bytes k sound h is; limits = refl; faults = refl })
+      (λ is. record { tree = told_no_file is; limits = refl; faults = refl })
 
   pub read_link-err : (e : SrvErr) → IsFound k.nodes h Link (Err e) → ReadLink the_server h (Err e) the_server
   read_link-err e found = found_error k.nodes h Link e found (λ e. ReadLink the_server h (Err e) the_server)
-      (λ is. record { tree = held_tree held now (λ t. IsStale t h × (tree_of held k ≡ Some t)) (λ there. (node_at-none k h is, stays there)); limits = refl; faults = refl })
-      (λ is. record { tree = held_tree held now (λ t. IsNo text_in t h × (tree_of held k ≡ Some t)) (λ there. (no_link is, stays there)); limits = refl; faults = refl })
+      (λ is. record { tree = told_stale held limits next bytes k sound h is; limits = refl; faults = refl })
+      (λ is. record { tree = told_no_link is; limits = refl; faults = refl })
 
   pub write-err : (offset : ℕ) (piece : List ℕ) (e : SrvErr) → IsFound k.nodes h File (Err e) → Write the_server h offset piece (Err e) the_server
   write-err offset piece e found = found_error k.nodes h File e found (λ e. Write the_server h offset piece (Err e) the_server)
-      (λ is. record { tree = held_tree held now (λ t. IsStale t h × (tree_of held k ≡ Some t)) (λ there. (node_at-none k h is, stays there)); limits = refl; faults = refl })
-      (λ is. record { tree = held_tree held now (λ t. IsNo bytes_in t h × (tree_of held k ≡ Some t)) (λ there. (no_file is, stays there)); limits = refl; faults = refl })
+      (λ is. record { tree = told_stale held limits next bytes k sound h is; limits = refl; faults = refl })
+      (λ is. record { tree = told_no_file is; limits = refl; faults = refl })
 
   pub set_size-err : (size : ℕ) (e : SrvErr) → IsFound k.nodes h File (Err e) → SetSize the_server h size (Err e) the_server
   set_size-err size e found = found_error k.nodes h File e found (λ e. SetSize the_server h size (Err e) the_server)
-      (λ is. record { tree = held_tree held now (λ t. IsStale t h × (tree_of held k ≡ Some t)) (λ there. (node_at-none k h is, stays there)); limits = refl; faults = refl })
-      (λ is. record { tree = held_tree held now (λ t. IsNo bytes_in t h × (tree_of held k ≡ Some t)) (λ there. (no_file is, stays there)); limits = refl; faults = refl })
+      (λ is. record { tree = told_stale held limits next bytes k sound h is; limits = refl; faults = refl })
+      (λ is. record { tree = told_no_file is; limits = refl; faults = refl })
 
   -- READING
 
@@ -70,7 +70,7 @@ module _ (held : Bool) (limits : ServerLimits) (next bytes : ℕ) (k : Kept) (so
     read-ok offset count is told = record {
       tree = held_tree held now (λ t. ((option_map (λ b. take count (drop offset b)) (bytes_at t h) ≡ Some v.items) × (tree_of held k ≡ Some t)) × OnlySoft (ContentErr bytes_in h t)) (λ there.
           let at = bytes_at-is limits next bytes k (sound there) h p is.0 is.1 in
-          ((ap (option_map (λ b. take count (drop offset b))) at ∙ ap Some (sym told), stays there), read_soft now h (bytes_under k.contents h) at));
+          ((ap (option_map (λ b. take count (drop offset b))) at ∙ ap Some (sym told), there_is there), read_soft now h (bytes_under k.contents h) at));
       limits = refl;
       faults = refl;
     }
@@ -79,7 +79,7 @@ module _ (held : Bool) (limits : ServerLimits) (next bytes : ℕ) (k : Kept) (so
     read_link-ok is told = record {
       tree = held_tree held now (λ t. ((text_at t h ≡ Some v.items) × (tree_of held k ≡ Some t)) × OnlySoft (ContentErr text_in h t)) (λ there.
           let at = text_at-is limits next bytes k (sound there) h p is.0 is.1 in
-          ((at ∙ ap Some (sym told), stays there), read_link_soft now h (bytes_under k.contents h) at));
+          ((at ∙ ap Some (sym told), there_is there), read_link_soft now h (bytes_under k.contents h) at));
       limits = refl;
       faults = refl;
     }
@@ -96,7 +96,7 @@ module _ (held : Bool) (limits : ServerLimits) (next bytes : ℕ) (k : Kept) (so
       tree = held_tree held now (λ t. IsSomeAnd (bytes_at t h) (λ b. NoRoom limits t 0 (length b) (max (length b) (offset + length piece))) × (tree_of held k ≡ Some t)) (λ there. (
         is_some_and (λ b. NoRoom limits now 0 (length b) (max (length b) (offset + length piece))) (bytes_at-is limits next bytes k (sound there) h p is.0 is.1)
         (no_room (max (length (bytes_under k.contents h)) (offset + length piece)) there over),
-        stays there,
+        there_is there,
       ));
       limits = refl;
       faults = refl;
@@ -106,7 +106,7 @@ module _ (held : Bool) (limits : ServerLimits) (next bytes : ℕ) (k : Kept) (so
     set_size-full size over = record {
       tree = held_tree held now (λ t. IsSomeAnd (bytes_at t h) (λ b. NoRoom limits t 0 (length b) size) × (tree_of held k ≡ Some t)) (λ there. (
         is_some_and (λ b. NoRoom limits now 0 (length b) size) (bytes_at-is limits next bytes k (sound there) h p is.0 is.1) (no_room size there over),
-        stays there,
+        there_is there,
       ));
       limits = refl;
       faults = refl;

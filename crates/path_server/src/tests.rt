@@ -1,85 +1,11 @@
-//! A boxed server, through each of its calls.
+//! A boxed server, through tables of calls.
 
-ghost use Rattle.std.specs.Prelude.{◌≡◌, true, OnOk};
-ghost use Rattle.nfs2_types.specs.Names.{is_name};
-ghost use Rattle.server_trait.specs.Step.{HasTree};
+mod case;
 
-use crate::PathServer;
-use nfs2_types::{Handle, Kind};
-use server_trait::{FileServer, NodeAttr, ServerLimits, Srv, SrvErr};
+use case::{Case, odd_one};
+use nfs2_types::Kind;
+use server_trait::ServerLimits;
 use std::test::Fail;
-
-/// The handle of a new directory, or why there is none.
-fn made(server: &mut Srv, dir: &Handle, name: &[u8]) -> Result<Result<Handle, &'static str>, Fail>
-    requires tree { HasTree (⟦<Srv as FileServer>⟧.state server.old) }
-    requires name { is_name name.now ≡ true }
-    ensures { OnOk result (HasTree (⟦<Srv as FileServer>⟧.state server.new)) }
-{
-    match server.mkdir(dir, name) {
-        Ok(handle) => Ok(Ok(handle)),
-        Err(SrvErr::Stale) => Ok(Err("stale")),
-        Err(SrvErr::Exists) => Ok(Err("exists")),
-        Err(SrvErr::Full) => Ok(Err("full")),
-        Err(_) => Err("mkdir".into()),
-    }
-}
-
-/// Where a name leads, or why nowhere.
-fn found(server: &mut Srv, dir: &Handle, name: &[u8]) -> Result<Result<Handle, &'static str>, Fail>
-    requires tree { HasTree (⟦<Srv as FileServer>⟧.state server.old) }
-    requires name { is_name name.now ≡ true }
-    ensures { OnOk result (HasTree (⟦<Srv as FileServer>⟧.state server.new)) }
-{
-    match server.lookup(dir, name) {
-        Ok(handle) => Ok(Ok(handle)),
-        Err(SrvErr::Stale) => Ok(Err("stale")),
-        Err(SrvErr::NoEnt) => Ok(Err("no entry")),
-        Err(_) => Err("lookup".into()),
-    }
-}
-
-/// The attributes of a node, if there is one.
-fn seen(server: &mut Srv, node: &Handle) -> Result<Option<NodeAttr>, Fail>
-    requires { HasTree (⟦<Srv as FileServer>⟧.state server.old) }
-    ensures { OnOk result (HasTree (⟦<Srv as FileServer>⟧.state server.new)) }
-{
-    match server.attr(node) {
-        Ok(attr) => Ok(Some(attr)),
-        Err(SrvErr::Stale) => Ok(None),
-        Err(_) => Err("attr".into()),
-    }
-}
-
-/// Sets the mode and the owners of a node.
-fn set(server: &mut Srv, node: &Handle, mode: u32, uid: u32, gid: u32) -> Result<(), Fail>
-    requires { HasTree (⟦<Srv as FileServer>⟧.state server.old) }
-    ensures { OnOk result (HasTree (⟦<Srv as FileServer>⟧.state server.new)) }
-{
-    match server.set_attr(node, mode, uid, gid) {
-        Ok(()) => Ok(()),
-        Err(_) => Err("set_attr".into()),
-    }
-}
-
-/// An empty server, whose first root is gone.
-fn wiped(server: &mut Srv) -> Result<(), Fail>
-    ensures { OnOk result (HasTree (⟦<Srv as FileServer>⟧.state server.new)) }
-{
-    match server.wipe() {
-        Ok(()) => Ok(()),
-        Err(_) => Err("wipe".into()),
-    }
-}
-
-/// The mode, the owners, the number of names and the number of subdirectories of a directory.
-fn told(attr: Option<NodeAttr>) -> Option<(u32, u32, u32, u32, u32)> {
-    match attr {
-        Some(attr) if attr.kind == Kind::Dir => {
-            Some((attr.mode, attr.uid, attr.gid, attr.size, attr.links))
-        }
-        _ => None,
-    }
-}
 
 const ROOMY: ServerLimits = ServerLimits {
     nodes: 16,
@@ -88,62 +14,147 @@ const ROOMY: ServerLimits = ServerLimits {
 
 #[test]
 fn names(rt: HostRuntime) -> Result<(), Fail> {
-    let Ok(server) = PathServer::new(rt.alloc(), ROOMY) else {
-        return Err("new".into());
-    };
-    let mut server: Srv = Box::new(rt.alloc(), server)?;
-    let old = server.root();
-    wiped(&mut server)?;
-    let root = server.root();
-    let Ok(usr) = made(&mut server, &root, b"usr")? else {
-        return Err("usr".into());
-    };
-    let Ok(bin) = made(&mut server, &usr, b"bin")? else {
-        return Err("usr/bin".into());
-    };
-    assert_eq!(rt; made(&mut server, &root, b"usr")?, Err("exists"));
-    assert_eq!(rt; made(&mut server, &old, b"usr")?, Err("stale"));
     let cases = [
-        found(&mut server, &root, b"usr")?,
-        found(&mut server, &usr, b"bin")?,
-        found(&mut server, &root, b"bin")?,
-        found(&mut server, &old, b"usr")?,
+        Case::Mkdir(1, b"usr", Ok(2)),
+        Case::Mkdir(2, b"bin", Ok(3)),
+        Case::Create(2, b"notes", Ok(4)),
+        Case::Symlink(1, b"var", b"usr", Ok(5)),
+        Case::Mkdir(1, b"usr", Err("exists")),
+        Case::Create(1, b"var", Err("exists")),
+        Case::Symlink(2, b"notes", b"x", Err("exists")),
+        Case::Mkdir(0, b"usr", Err("stale")),
+        Case::Create(4, b"usr", Err("no directory")),
+        Case::Symlink(5, b"usr", b"x", Err("no directory")),
+        Case::Lookup(1, b"usr", Ok(2)),
+        Case::Lookup(2, b"bin", Ok(3)),
+        Case::Lookup(2, b"notes", Ok(4)),
+        Case::Lookup(1, b"var", Ok(5)),
+        Case::Lookup(1, b"bin", Err("no entry")),
+        Case::Lookup(0, b"usr", Err("stale")),
+        Case::Lookup(4, b"usr", Err("no directory")),
     ];
-    assert_eq!(rt; cases, [Ok(usr), Ok(bin), Err("no entry"), Err("stale")]);
+    assert_eq!(rt; odd_one(rt.alloc(), ROOMY, &cases)?, None);
+    Ok(())
+}
+
+#[test]
+fn lists(rt: HostRuntime) -> Result<(), Fail> {
+    let cases = [
+        Case::List(1, Ok(&[])),
+        Case::Mkdir(1, b"usr", Ok(2)),
+        Case::Mkdir(1, b"var", Ok(3)),
+        Case::Symlink(2, b"bin", b"/bin", Ok(4)),
+        Case::Create(2, b"b", Ok(5)),
+        Case::Create(3, b"log", Ok(6)),
+        Case::List(1, Ok(&[(b"usr", 2), (b"var", 3)])),
+        Case::List(2, Ok(&[(b"b", 5), (b"bin", 4)])),
+        Case::List(3, Ok(&[(b"log", 6)])),
+        Case::List(0, Err("stale")),
+        Case::List(4, Err("no directory")),
+    ];
+    assert_eq!(rt; odd_one(rt.alloc(), ROOMY, &cases)?, None);
+    Ok(())
+}
+
+#[test]
+fn files(rt: HostRuntime) -> Result<(), Fail> {
+    let cases = [
+        Case::Create(1, b"file", Ok(2)),
+        Case::Read(2, 0, 9, Ok(b"")),
+        Case::Write(2, 0, b"abc", Ok(3)),
+        Case::Write(2, 5, b"fgh", Ok(3)),
+        Case::Write(2, 1, b"XY", Ok(2)),
+        Case::Read(2, 0, 9, Ok(b"aXY\0\0fgh")),
+        Case::Read(2, 0, 8, Ok(b"aXY\0\0fgh")),
+        Case::Read(2, 2, 4, Ok(b"Y\0\0f")),
+        Case::Read(2, 7, 1, Ok(b"h")),
+        Case::Read(2, 7, 2, Ok(b"h")),
+        Case::Read(2, 8, 1, Ok(b"")),
+        Case::Read(2, 4_000_000_000, 4_000_000_000, Ok(b"")),
+        Case::SetSize(2, 2, Ok(())),
+        Case::SetSize(2, 4, Ok(())),
+        Case::Read(2, 0, 9, Ok(b"aX\0\0")),
+        Case::Read(0, 0, 1, Err("stale")),
+        Case::Read(1, 0, 1, Err("other kind")),
+        Case::Write(0, 0, b"a", Err("stale")),
+        Case::Write(1, 0, b"a", Err("other kind")),
+        Case::SetSize(0, 1, Err("stale")),
+        Case::SetSize(1, 1, Err("other kind")),
+    ];
+    assert_eq!(rt; odd_one(rt.alloc(), ROOMY, &cases)?, None);
+    Ok(())
+}
+
+#[test]
+fn links(rt: HostRuntime) -> Result<(), Fail> {
+    let cases = [
+        Case::Symlink(1, b"link", b"../there", Ok(2)),
+        Case::Symlink(1, b"none", b"", Ok(3)),
+        Case::Create(1, b"file", Ok(4)),
+        Case::ReadLink(2, Ok(b"../there")),
+        Case::ReadLink(3, Ok(b"")),
+        Case::ReadLink(0, Err("stale")),
+        Case::ReadLink(1, Err("other kind")),
+        Case::ReadLink(4, Err("other kind")),
+        Case::Read(2, 0, 1, Err("other kind")),
+    ];
+    assert_eq!(rt; odd_one(rt.alloc(), ROOMY, &cases)?, None);
     Ok(())
 }
 
 #[test]
 fn attributes(rt: HostRuntime) -> Result<(), Fail> {
-    let Ok(server) = PathServer::new(rt.alloc(), ROOMY) else {
-        return Err("new".into());
-    };
-    let mut server: Srv = Box::new(rt.alloc(), server)?;
-    wiped(&mut server)?;
-    assert_eq!(rt; server.limits(), ROOMY);
-    let root = server.root();
-    let Ok(usr) = made(&mut server, &root, b"usr")? else {
-        return Err("usr".into());
-    };
-    set(&mut server, &usr, 0o755, 10, 20)?;
-    assert_eq!(rt; told(seen(&mut server, &usr)?), Some((0o755, 10, 20, 0, 0)));
-    assert_eq!(rt; told(seen(&mut server, &root)?), Some((0, 0, 0, 1, 1)));
-    assert_eq!(rt; told(seen(&mut server, &[7; 32])?), None);
+    let cases = [
+        Case::Mkdir(1, b"usr", Ok(2)),
+        Case::Create(1, b"file", Ok(3)),
+        Case::Symlink(1, b"link", b"file", Ok(4)),
+        Case::SetAttr(2, 0o755, 10, 20),
+        Case::SetAttr(3, 0o644, 30, 40),
+        Case::Write(3, 6, b"z", Ok(1)),
+        Case::Attr(1, Ok((Kind::Dir, 0, 0, 0, 3, 1))),
+        Case::Attr(2, Ok((Kind::Dir, 0o755, 10, 20, 0, 0))),
+        Case::Attr(3, Ok((Kind::File, 0o644, 30, 40, 7, 1))),
+        Case::Attr(4, Ok((Kind::Link, 0, 0, 0, 4, 1))),
+        Case::Attr(0, Err("stale")),
+    ];
+    assert_eq!(rt; odd_one(rt.alloc(), ROOMY, &cases)?, None);
     Ok(())
 }
 
 #[test]
-fn limits(rt: HostRuntime) -> Result<(), Fail> {
+fn full(rt: HostRuntime) -> Result<(), Fail> {
+    let cases = [
+        Case::Mkdir(1, b"a", Ok(2)),
+        Case::Create(1, b"b", Ok(3)),
+        Case::Mkdir(1, b"c", Err("full")),
+        Case::Create(1, b"c", Err("full")),
+        Case::Symlink(1, b"c", b"", Err("full")),
+    ];
     for (nodes, bytes) in [(3, 4096), (16, 1024)] {
-        let Ok(server) = PathServer::new(rt.alloc(), ServerLimits { nodes, bytes }) else {
-            return Err("new".into());
-        };
-        let mut server: Srv = Box::new(rt.alloc(), server)?;
-        wiped(&mut server)?;
-        let root = server.root();
-        assert!(rt; made(&mut server, &root, b"a")?.is_ok(), "{nodes}");
-        assert!(rt; made(&mut server, &root, b"b")?.is_ok(), "{nodes}");
-        assert_eq!(rt; made(&mut server, &root, b"c")?, Err("full"), "{nodes}");
+        let limits = ServerLimits { nodes, bytes };
+        assert_eq!(rt; odd_one(rt.alloc(), limits, &cases)?, None, "{nodes}");
     }
+    Ok(())
+}
+
+#[test]
+fn room(rt: HostRuntime) -> Result<(), Fail> {
+    let limits = ServerLimits {
+        nodes: 16,
+        bytes: 1034,
+    };
+    let cases = [
+        Case::Create(1, b"file", Ok(2)),
+        Case::Symlink(1, b"link", b"eleven byte", Err("full")),
+        Case::Symlink(1, b"link", b"four", Ok(3)),
+        Case::Write(2, 3, b"full", Err("full")),
+        Case::Write(2, 3, b"end", Ok(3)),
+        Case::Write(2, 0, b"abcdef", Ok(6)),
+        Case::SetSize(2, 7, Err("full")),
+        Case::SetSize(2, 5, Ok(())),
+        Case::Write(2, 6, b"x", Err("full")),
+        Case::SetSize(2, 6, Ok(())),
+    ];
+    assert_eq!(rt; odd_one(rt.alloc(), limits, &cases)?, None);
     Ok(())
 }
