@@ -1,5 +1,7 @@
 //! Runs of the program over memory. The numbers of the calls are those of RFC 5531 and RFC 1094.
 
+mod calls;
+
 ghost use Rattle.std.specs.Prelude.{◌≤◌};
 
 use super::*;

@@ -64,10 +64,7 @@ fn procedures_with_more_words(rt: HostRuntime) -> Result<(), Fail> {
     let head = [2, 0, 2, 100003, 2];
     for (proc, words) in [(2, 8), (6, 3), (8, 4)] {
         let zeros = [0; 8];
-        let call = bytes_of(
-            alloc,
-            &[&head, &[proc, 0, 0, 0, 0], file, &zeros[..words]],
-        )?;
+        let call = bytes_of(alloc, &[&head, &[proc, 0, 0, 0, 0], file, &zeros[..words]])?;
         assert!(rt; is_built(&call), "{proc}");
     }
     Ok(())

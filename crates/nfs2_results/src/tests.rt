@@ -68,7 +68,10 @@ fn refused(rt: &impl Abort, alloc: Global, proc: u32, bytes: &[u8], at: usize, k
     requires { proc ≤ 17 }
 {
     let found = read_result(alloc, proc, bytes).err();
-    assert!(rt; found == Some(ResErr::Xdr(XdrErr { at, kind })), "procedure {proc}");
+    assert!(rt;
+        found == Some(ResErr::Xdr(XdrErr { at, kind })),
+        "procedure {proc}"
+    );
 }
 
 /// A result that is spelled so is refused with a byte more, a byte less, a byte of padding that is not zero, and a bool of
@@ -178,10 +181,7 @@ fn attributes(rt: HostRuntime) -> Result<(), Fail> {
         handle,
         fattr: FATTR,
     };
-    let at = Marks {
-        last: 100,
-        ..PLAIN
-    };
+    let at = Marks { last: 100, ..PLAIN };
     let pieces: [&[u8]; 3] = [&OK, &handle, &WORDS];
     all_both_ways(&rt, alloc, &[4, 9, 14], &node, &pieces, at)?;
     let space = NfsResult::Space {
