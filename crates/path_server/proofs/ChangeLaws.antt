@@ -5,7 +5,7 @@ use Rattle.std.specs.Ordering.{nat_cmp}
 use Rattle.std.specs.Cmp.Lexicographic.{slice_cmp, nat_list_cmp_total}
 use Rattle.std.specs.FinMap.{get, insert, len, empty, same_map, get-empty, len-insert, len-empty}
 use Rattle.nfs2_types.specs.declared.fattr.Kind.TheVariants.{Dir}
-use Rattle.server_trait.specs.Tree.{Tree, Node, ByBytes, NamesOf, node_at, used, used_by, links, subdirs, names_to, new_node, edited, with_node, with_attr}
+use Rattle.server_trait.specs.Tree.{Tree, Node, ByBytes, NamesOf, node_at, used, used_by, links, new_node, edited, with_node, with_attr}
 use Rattle.server_trait.specs.Step.{OnlySoft}
 use Rattle.server_trait.specs.Calls.{IsFresh, SetAttr, NodeErr}
 use Rattle.server_trait.specs.declared.server.ServerLimits.{ServerLimits}
@@ -13,7 +13,7 @@ use Rattle.server_trait.proofs.CountLaws.{links-edited, links-with_node, subdirs
 use Rattle.server_trait.proofs.TreeLaws.{some_none, bytes_or_not, get-insert_same, get-insert_other, edited-some, used-edited, used-with_node, links-none, target_found}
 use Rattle.server_trait.proofs.SumLaws.{total-none}
 use Rattle.server_trait.proofs.SoftLaws.{node_soft}
-use Rattle.path_server.specs.Bytes.{Contents, bytes_under}
+use Rattle.path_server.specs.Bytes.{Contents}
 use Rattle.path_server.specs.Kept.{Kept, kept_as, full_node, nodes_of, the_tree, tree_of}
 use Rattle.path_server.specs.Nodes.{made_node, set_node}
 use Rattle.path_server.specs.Paths.{Paths, serial_bytes, names_of}

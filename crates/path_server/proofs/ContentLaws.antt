@@ -1,12 +1,12 @@
 -- What a node contains, by its kind.
-use Rattle.std.proofs.Common.{inl, inr, ◌≡◌, ◌≢◌, ℕ, ◌+◌, ◌*◌, cond, List, [], length, Option, Some, None, refl, sym, ap, ◌∙◌, subst}
+use Rattle.std.proofs.Common.{◌≡◌, ◌≢◌, ℕ, List, [], Some, None, refl, ap, ◌∙◌}
 use Rattle.std.specs.Prelude.{unwrap_or, Bool, true, false}
 use Rattle.std.specs.Ordering.{nat_cmp}
 use Rattle.std.specs.Cmp.Lexicographic.{slice_cmp, nat_list_cmp_total}
-use Rattle.std.specs.FinMap.{get, insert, empty, len, get-empty}
+use Rattle.std.specs.FinMap.{insert, empty, get-empty}
 use Rattle.nfs2_types.specs.declared.fattr.Kind.{Kind}
 use Rattle.nfs2_types.specs.declared.fattr.Kind.TheVariants.{File, Dir, Link}
-use Rattle.server_trait.specs.Tree.{Content, BytesOf, TextOf, NamesOf, Names, bytes_in, text_in, names_in, kind_of, names_to, one_if, size_of}
+use Rattle.server_trait.specs.Tree.{BytesOf, TextOf, NamesOf, Names, bytes_in, text_in, names_in, kind_of, names_to}
 use Rattle.server_trait.proofs.SumLaws.{total-none}
 use Rattle.server_trait.proofs.TreeLaws.{some_none, get-insert_same, get-insert_other}
 use Rattle.path_server.specs.Nodes.{is_dir}

@@ -1,5 +1,5 @@
 -- What the calls on files and links answer, over plain values.
-use Rattle.std.proofs.Common.{◌≡◌, ◌≢◌, inl, inr, ℕ, ◌+◌, ◌-◌, ◌<◌, ◌≤◌, Bool, true, cond, List, [], length, take, drop, Option, Some, None, Ok, Err, IsSomeAnd, refl, sym, ap, ◌∙◌, arith}
+use Rattle.std.proofs.Common.{◌≡◌, ◌≢◌, inr, ℕ, ◌+◌, ◌-◌, ◌<◌, ◌≤◌, Bool, true, List, [], length, take, drop, Option, Some, Ok, Err, IsSomeAnd, refl, sym, ap, ◌∙◌, arith}
 use Rattle.std.specs.Prelude.{max, Vec}
 use Rattle.std.specs.Option.{option_map}
 use Rattle.std.specs.declared.alloc.Global.{Global}
@@ -7,10 +7,10 @@ use Rattle.std.specs.FinMap.{get}
 use Rattle.nfs2_types.specs.Bytes.{resized, overwritten}
 use Rattle.nfs2_types.specs.declared.fattr.Kind.TheVariants.{File, Link}
 use Rattle.server_trait.specs.Tree.{Tree, Server, bytes_in, text_in, bytes_at, text_at, edited, with_bytes}
-use Rattle.server_trait.specs.Step.{OnlySoft, IsStale, IsNo, NoRoom}
+use Rattle.server_trait.specs.Step.{OnlySoft, IsNo, NoRoom}
 use Rattle.server_trait.specs.Calls.{Read, ReadLink, Write, SetSize, Wrote, ContentErr, WriteErr, SetSizeErr}
 use Rattle.server_trait.specs.declared.server.SrvErr.{SrvErr}
-use Rattle.server_trait.specs.declared.server.SrvErr.TheVariants.{Stale, WrongKind, Full}
+use Rattle.server_trait.specs.declared.server.SrvErr.TheVariants.{Full}
 use Rattle.server_trait.specs.declared.server.ServerLimits.{ServerLimits}
 use Rattle.server_trait.proofs.TreeLaws.{is_some_and}
 use Rattle.server_trait.proofs.SoftLaws.{read_soft, read_link_soft, write_soft, set_size_soft}
@@ -22,7 +22,6 @@ use Rattle.path_server.proofs.ByteLaws.{overwritten_is}
 use Rattle.path_server.proofs.CallLaws.{held_tree, found_error, no_view, stays, told_stale}
 use Rattle.path_server.proofs.ContentLaws.{no_bytes, no_text}
 use Rattle.path_server.proofs.FileLaws.{same_change}
-use Rattle.path_server.proofs.NodeLaws.{node_at-none}
 use Rattle.path_server.proofs.SoundLaws.{bytes_at-is, text_at-is}
 
 module _ (held : Bool) (limits : ServerLimits) (next bytes : ℕ) (k : Kept) (sound : held ≡ true → IsSound limits next bytes k) (h : List ℕ) where
@@ -95,7 +94,7 @@ module _ (held : Bool) (limits : ServerLimits) (next bytes : ℕ) (k : Kept) (so
     write-full offset piece over = record {
       tree = held_tree held now (λ t. IsSomeAnd (bytes_at t h) (λ b. NoRoom limits t 0 (length b) (max (length b) (offset + length piece))) × (tree_of held k ≡ Some t)) (λ there. (
         is_some_and (λ b. NoRoom limits now 0 (length b) (max (length b) (offset + length piece))) (bytes_at-is limits next bytes k (sound there) h p is.0 is.1)
-        (no_room (max (length (bytes_under k.contents h)) (offset + length piece)) there over),
+            (no_room (max (length (bytes_under k.contents h)) (offset + length piece)) there over),
         there_is there,
       ));
       limits = refl;

@@ -1,5 +1,5 @@
 -- A server whose file has other bytes.
-use Rattle.std.proofs.Common.{inl, inr, ◌≡◌, ◌≢◌, ℕ, ◌+◌, ◌-◌, ◌≤◌, ◌<◌, List, [], length, take, Option, Some, None, Ok, Err, IsSomeAnd, Bool, cond, refl, sym, ap, ◌∙◌, subst, arith}
+use Rattle.std.proofs.Common.{inl, inr, ◌≡◌, ◌≢◌, ℕ, ◌+◌, ◌-◌, ◌≤◌, List, [], length, Option, Some, None, IsSomeAnd, refl, sym, ap, ◌∙◌, subst, arith}
 use Rattle.std.specs.Option.{option_map}
 use Rattle.std.specs.Cmp.Lexicographic.{nat_list_cmp_total}
 use Rattle.std.specs.FinMap.{get, insert, same_map}
@@ -49,8 +49,8 @@ module _ (k : Kept) (h : List ℕ) (p : PathNode) (is : get k.nodes h ≡ Some p
   same_change f g same =
       edited-some now h (with_bytes f) old_file at_now
       ∙ ap (λ (c : Content). let n : Node = record old_file { content = c } in with_node now h n)
-        (ap (λ (c : Content). let n : Node = record old_file { content = c } in (with_bytes f n).content) old_content ∙ ap BytesOf same
-        ∙ sym (ap (λ (c : Content). let n : Node = record old_file { content = c } in (with_bytes g n).content) old_content))
+      (ap (λ (c : Content). let n : Node = record old_file { content = c } in (with_bytes f n).content) old_content ∙ ap BytesOf same
+      ∙ sym (ap (λ (c : Content). let n : Node = record old_file { content = c } in (with_bytes g n).content) old_content))
       ∙ sym (edited-some now h (with_bytes g) old_file at_now)
 
   module _ (contents' : Contents) (f : List ℕ → List ℕ) (here : bytes_under contents' h ≡ f old_bytes) (others : (q : List ℕ) → q ≢ h → bytes_under contents' q ≡ bytes_under k.contents q) where

@@ -1,8 +1,7 @@
 -- A list of the names of a directory, from a walk over the keys from its handle on.
-use Rattle.std.proofs.Common.{◌≡◌, ◌≢◌, ℕ, zero, suc, true, false, cond, Bool, ◌&&◌, List, [], ◌∷◌, ◌++◌, map, length, take, drop, slice_get, Some, None, refl, sym, ap, ◌∙◌, subst, append_assoc}
+use Rattle.std.proofs.Common.{◌≡◌, ◌≢◌, ℕ, zero, suc, true, false, cond, Bool, ◌&&◌, List, [], ◌∷◌, ◌++◌, map, length, take, drop, slice_get, Some, refl, sym, ap, ◌∙◌, subst, append_assoc}
 use Rattle.std.specs.Prelude.{Vec, bytes_eq, nat_eq}
 use Rattle.std.specs.declared.alloc.Global.{Global}
-use Rattle.std.specs.declared.cmp.Ordering.{Ordering}
 use Rattle.std.specs.declared.cmp.Ordering.TheVariants.{Less}
 use Rattle.std.specs.List.{AllByRecursion, filter}
 use Rattle.std.specs.List.Sorted.{IsStrictlySortedBy}
@@ -129,9 +128,9 @@ module _ (dir : List ℕ) (fits : length dir ≡ 32) where
       not_here : is_le (vec_cmp first e.0) ≡ false → bytes_eq (take 32 e.0.items) dir ≡ false
       not_here f = elim (bytes_eq (take 32 e.0.items) dir) as (λ b. bytes_eq (take 32 e.0.items) dir ≡ b → b ≡ false) [
         | true ↦ λ t. absurd (
-          let le : is_le (vec_cmp first e.0) ≡ true = ap (λ l. is_le (slice_cmp nat_cmp l e.0.items)) is ∙ ap (λ l. is_le (slice_cmp nat_cmp dir l)) (whole dir fits e.0.items t) ∙ beginning_first dir (drop 32 e.0.items) in
-          let bad : true ≡ false = sym le ∙ f in cc
-        )
+            let le : is_le (vec_cmp first e.0) ≡ true = ap (λ l. is_le (slice_cmp nat_cmp l e.0.items)) is ∙ ap (λ l. is_le (slice_cmp nat_cmp dir l)) (whole dir fits e.0.items t) ∙ beginning_first dir (drop 32 e.0.items) in
+            let bad : true ≡ false = sym le ∙ f in cc
+            )
         | false ↦ λ _. refl
       ] refl
 
@@ -141,10 +140,10 @@ module _ (dir : List ℕ) (fits : length dir ≡ 32) where
   named_none k (e ∷ es) le f all =
       elim (bytes_eq (take 32 e.0.items) dir) as (λ b. bytes_eq (take 32 e.0.items) dir ≡ b → cond b ((drop 32 e.0.items, e.1) ∷ named es) (named es) ≡ []) [
         | true ↦ λ t. absurd (
-          let lt : slice_cmp nat_cmp k.items (dir ++ drop 32 e.0.items) ≡ Less = ap (slice_cmp nat_cmp k.items) (sym (whole dir fits e.0.items t)) ∙ all.0 in
-          let begins : take 32 k.items ≡ dir = ap (λ n. take n k.items) (sym fits) ∙ between_alike dir k.items (drop 32 e.0.items) le lt in
-          let bad : true ≡ false = sym ((bytes_eq-Decides (take 32 k.items) dir).1 begins) ∙ f in cc
-        )
+            let lt : slice_cmp nat_cmp k.items (dir ++ drop 32 e.0.items) ≡ Less = ap (slice_cmp nat_cmp k.items) (sym (whole dir fits e.0.items t)) ∙ all.0 in
+            let begins : take 32 k.items ≡ dir = ap (λ n. take n k.items) (sym fits) ∙ between_alike dir k.items (drop 32 e.0.items) le lt in
+            let bad : true ≡ false = sym ((bytes_eq-Decides (take 32 k.items) dir).1 begins) ∙ f in cc
+            )
         | false ↦ λ _. named_none k es le f all.1
       ] refl
 

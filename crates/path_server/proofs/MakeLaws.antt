@@ -1,6 +1,6 @@
 -- A server with one node more.
 use Rattle.std.proofs.Common.{inl, inr, ◌≡◌, ◌≢◌, ℕ, ◌+◌, ◌*◌, ◌^◌, ◌≤◌, ◌<◌, ◌++◌, true, false, cond, List, length, Option, Some, None, IsSome, is_some, refl, sym, ap, ◌∙◌, subst, arith}
-use Rattle.std.specs.Prelude.{Bool, bytes_eq}
+use Rattle.std.specs.Prelude.{bytes_eq}
 use Rattle.std.specs.Option.{option_map}
 use Rattle.std.specs.Ordering.{nat_cmp}
 use Rattle.std.specs.Cmp.Lexicographic.{slice_cmp, nat_list_cmp_total}
@@ -8,12 +8,11 @@ use Rattle.std.specs.FinMap.{get, insert, len, empty, same_map, len-insert, len-
 use Rattle.std.proofs.lemmas.Slice.Eq.{bytes_eq-Decides}
 use Rattle.nfs2_types.specs.declared.fattr.Kind.{Kind}
 use Rattle.nfs2_types.specs.declared.fattr.Kind.TheVariants.{File, Dir, Link}
-use Rattle.server_trait.specs.Tree.{Tree, Node, Names, ByBytes, Content, BytesOf, TextOf, NamesOf, IsNamed, node_at, names_in, is_dir_at, one_if, used, used_by, links, subdirs, names_to, new_node, named, with_node, with_names}
+use Rattle.server_trait.specs.Tree.{Tree, Node, Names, ByBytes, Content, BytesOf, TextOf, NamesOf, IsNamed, node_at, names_in, is_dir_at, one_if, used, used_by, links, subdirs, new_node, named, with_node, with_names}
 use Rattle.server_trait.specs.Calls.{Made}
 use Rattle.server_trait.specs.declared.server.ServerLimits.{ServerLimits}
 use Rattle.server_trait.proofs.CountLaws.{links-with_node, links-named, subdirs-same, subdirs-insert_new, subdirs-most}
 use Rattle.server_trait.proofs.TreeLaws.{some_none, bytes_or_not, get-insert_same, get-insert_other, edited-some, used-with_node, used-edited, links-none, target_found}
-use Rattle.server_trait.proofs.SoftLaws.{some_of}
 use Rattle.path_server.specs.Bytes.{Contents, IsAdded, bytes_under, content_of}
 use Rattle.path_server.specs.Kept.{Kept, kept_as, node_of, full_node, nodes_of, the_tree}
 use Rattle.path_server.specs.Nodes.{is_dir, made_node, one_more}

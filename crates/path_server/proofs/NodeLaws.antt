@@ -1,5 +1,5 @@
 -- The nodes of the tree, from what is kept.
-use Rattle.std.proofs.Common.{◌≡◌, ℕ, ◌+◌, Bool, true, false, cond, ◌&&◌, List, [], ◌∷◌, map, length, Option, Some, None, is_some, refl, sym, ap, ◌∙◌, add-one, arith}
+use Rattle.std.proofs.Common.{◌≡◌, ℕ, ◌+◌, Bool, true, false, cond, ◌&&◌, List, [], ◌∷◌, map, length, Option, Some, None, is_some, refl, sym, ap, ◌∙◌, add-one}
 use Rattle.std.specs.Prelude.{T}
 use Rattle.std.specs.declared.cmp.Ordering.{Ordering}
 use Rattle.std.specs.declared.cmp.Ordering.TheVariants.{Less, Equal, Greater}
@@ -10,7 +10,7 @@ use Rattle.std.specs.Ordering.{nat_cmp, is_eq, is_lt}
 use Rattle.std.specs.Cmp.Lexicographic.{slice_cmp, nat_list_cmp_total}
 use Rattle.std.specs.FinMap.{FinMap, find, get, len, entries, from_entries, is_sorted, entries_sorted, get-entries, get-from_entries, len-entries, len-empty, len-insert}
 use Rattle.std.specs.FinMap.Entries.{below_all}
-use Rattle.server_trait.specs.Tree.{Tree, Node, Names, ByBytes, node_at, names_in, is_dir_at}
+use Rattle.server_trait.specs.Tree.{Node, Names, ByBytes, node_at, names_in, is_dir_at}
 use Rattle.server_trait.proofs.TreeLaws.{same-keys}
 use Rattle.nfs2_types.specs.declared.fattr.Kind.{Kind}
 use Rattle.path_server.specs.Nodes.{is_dir}

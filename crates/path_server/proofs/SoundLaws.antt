@@ -1,5 +1,5 @@
 -- What a sound server knows of a node that it keeps.
-use Rattle.std.proofs.Common.{◌≡◌, ℕ, ◌+◌, ◌^◌, ◌≤◌, ◌<◌, ◌++◌, Bool, true, false, List, length, Some, None, IfSome, refl, sym, ap, ◌∙◌, arith}
+use Rattle.std.proofs.Common.{◌≡◌, ℕ, ◌+◌, ◌^◌, ◌≤◌, ◌<◌, ◌++◌, Bool, true, false, List, length, Some, IfSome, refl, ap, ◌∙◌, arith}
 use Rattle.std.specs.Prelude.{max}
 use Rattle.std.specs.FinMap.{len, get}
 use Rattle.nfs2_types.specs.declared.fattr.Kind.TheVariants.{File, Dir, Link}
@@ -7,7 +7,7 @@ use Rattle.server_trait.specs.Tree.{Tree, Node, used_by, used, node_at, bytes_at
 use Rattle.server_trait.specs.declared.server.ServerLimits.{ServerLimits}
 use Rattle.server_trait.proofs.TreeLaws.{share, and_then, names_at-node, target-node}
 use Rattle.server_trait.proofs.CountLaws.{subdirs-most}
-use Rattle.path_server.specs.Bytes.{bytes_under, content_of}
+use Rattle.path_server.specs.Bytes.{bytes_under}
 use Rattle.path_server.specs.Kept.{Kept, the_tree, tree_of}
 use Rattle.path_server.specs.Paths.{names_of}
 use Rattle.path_server.specs.Sound.{IsSound}

@@ -1,10 +1,10 @@
 -- Laws of what a tree counts: the names that lead to a node, and the subdirectories among a directory's names.
-use Rattle.std.proofs.Common.{◌≡◌, ℕ, ◌+◌, ◌-◌, ◌≤◌, arith, Bool, true, false, List, [], ◌∷◌, length, Some, None, refl, sym, ap, ◌∙◌}
+use Rattle.std.proofs.Common.{◌≡◌, ℕ, ◌+◌, ◌-◌, ◌≤◌, arith, Bool, true, false, List, [], ◌∷◌, length, Some, None, refl, ap}
 use Rattle.std.specs.Prelude.{bytes_eq}
 use Rattle.std.specs.Cmp.Lexicographic.{nat_list_cmp_total}
 use Rattle.std.specs.FinMap.{get, insert, entries, len, len-entries}
 use Rattle.server_trait.specs.Sums.{sum_values, total}
-use Rattle.server_trait.specs.Tree.{Tree, Node, Content, NamesOf, Names, ByBytes, node_at, names_in, is_dir_at, one_if, links, names_to, subdirs, edited, named, with_node, with_names}
+use Rattle.server_trait.specs.Tree.{Tree, Node, NamesOf, Names, ByBytes, node_at, is_dir_at, one_if, links, names_to, subdirs, edited, named, with_node, with_names}
 use Rattle.server_trait.proofs.SumLaws.{total-insert_new, total-insert_old, total-none}
 use Rattle.server_trait.proofs.TreeLaws.{edited-some}
 
@@ -56,7 +56,7 @@ links-named t dir name h n m q is has none =
     let e = links-edited t dir (with_names (λ m. insert m name h)) n q is in
     let before : names_to q n.content ≡ names_to q (NamesOf m) = ap (names_to q) has in
     let after : names_to q (with_names (λ m. insert m name h) n).content ≡ names_to q (NamesOf (insert m name h)) =
-        ap (λ c. let x : Node = record n { content = c } in names_to q (with_names (λ m. insert m name h) x).content) has in
+    ap (λ c. let x : Node = record n { content = c } in names_to q (with_names (λ m. insert m name h) x).content) has in
     let more = total-insert_new nat_list_cmp_total (λ x. one_if (bytes_eq x q)) m name h none in
     omega (arith, e, before, after, more)
 

@@ -303,11 +303,7 @@ fn first_odd(server: &mut Srv, cases: &[Case]) -> Result<Option<usize>, Fail>
 }
 
 /// Which of the calls on a server that was wiped once answers otherwise.
-pub fn odd_one(
-    alloc: Global,
-    limits: ServerLimits,
-    cases: &[Case],
-) -> Result<Option<usize>, Fail>
+pub fn odd_one(alloc: Global, limits: ServerLimits, cases: &[Case]) -> Result<Option<usize>, Fail>
     requires { limits.bytes ≤ 1073741824 }
 {
     let Ok(server) = PathServer::new(alloc, limits) else {

@@ -13,7 +13,7 @@ returns-in_default c =
     walk_done c.args.dir.now c.told-dir c.in_ok-first.first c.in_ok-first.ensures.items c.self.inside.keys.entries c.into_iter-key-iterator.result
     (c.into_iter-key-iterator.ensures.into_iter_gives ∙ c.range-key-items.ensures.between tt) c.range-key-items.ensures.ordered c.args.self.now c.loop-key.rows.items c.loop-key.key-iterator c.self.view_is c.loop-key.invariant
     (walk_stopped c.args.dir.now c.told-dir c.into_iter-key-iterator.result c.loop-key.rows.items c.loop-key.key-iterator c.next.new.self (c.in-Some.key.now, c.in-Some.to.now) c.loop-key.invariant c.in-Some.ensures.steps
-      (test_is c.args.dir.now c.told-dir c.in-Some.key.now.items c.deref.result.now false c.deref.ensures.value c.in_default.ensures.cases))
+    (test_is c.args.dir.now c.told-dir c.in-Some.key.now.items c.deref.result.now false c.deref.ensures.value c.in_default.ensures.cases))
 
 pub loop-key-preserved : goal.loop-key-preserved
 loop-key-preserved c =

@@ -1,5 +1,5 @@
 use Rattle.std.specs.FinMap.{from_entries}
-use Rattle.std.proofs.Common.{ap, sym, ◌∙◌, subst, List, ℕ, arith}
+use Rattle.std.proofs.Common.{subst, List, ℕ, arith}
 use Rattle.path_server.specs.Bytes.{IsAdded}
 use Rattle.path_server.specs.Nodes.{made_node, one_more}
 use Rattle.path_server.specs.State.{kept_by}

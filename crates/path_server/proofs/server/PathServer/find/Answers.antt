@@ -1,7 +1,6 @@
 use denote.Enum.Bare.{same_true, same_false}
 use Rattle.std.proofs.Common.{rules, ◌≢◌, sym, ◌∙◌}
 use Rattle.nfs2_types.specs.contracts.fattr.Kind.{the_type}
-use Rattle.nfs2_types.specs.declared.fattr.Kind.TheVariants.{Dir}
 use Rattle.server_trait.proofs.TreeLaws.{is_some_and}
 use Rattle.path_server.specs.declared.node.PathNode.{PathNode}
 use Rattle.path_server.proofs.Rows.{get-rows}

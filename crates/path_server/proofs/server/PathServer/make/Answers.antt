@@ -1,4 +1,4 @@
-use Rattle.std.specs.FinMap.{empty, from_entries, len}
+use Rattle.std.specs.FinMap.{empty, len}
 use Rattle.std.proofs.Common.{◌≤◌, ◌<◌, ◌+◌, ◌⊎◌, length, sym, ◌∙◌, inl, inr, arith}
 use Rattle.std.proofs.lemmas.Result.{err_from_is_err_and}
 use Rattle.server_trait.proofs.SoftLaws.{some_of}

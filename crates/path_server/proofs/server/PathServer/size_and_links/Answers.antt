@@ -1,4 +1,4 @@
-use Rattle.std.proofs.Common.{inl, inr, ◌≡◌, length, ap, arith}
+use Rattle.std.proofs.Common.{inl, inr, length, ap, arith}
 use Rattle.path_server.specs.State.{kept_by}
 use Rattle.path_server.proofs.SoundLaws.{few_bytes, short_text}
 use Rattle.path_server.proofs.server.PathServer.size_and_links.Goals as goal
