@@ -17,14 +17,16 @@ drop_none zero = refl
 drop_none (suc n) = refl
 
 take_both : {X : Type 0} (n : ℕ) (xs ys : List X) → take n (xs ++ ys) ≡ take n xs ++ take (n - length xs) ys
-take_both n [] ys = let same : n - 0 ≡ n = omega arith in ap (λ n. take n ys) (sym same) ∙ ap (λ l. l ++ take (n - 0) ys) (sym (take_none n))
+take_both n [] ys = let same : n - 0 ≡ n = omega arith in ap (λ n. take n ys) (sym same)
+    ∙ ap (λ l. l ++ take (n - 0) ys) (sym (take_none n))
 take_both zero (x ∷ xs) ys = let none : zero - length (x ∷ xs) ≡ 0 = omega arith in ap (λ n. take n ys) (sym none)
 take_both (suc n) (x ∷ xs) ys =
     let less : suc n - length (x ∷ xs) ≡ n - length xs = omega arith in
     ap (λ l. x ∷ l) (take_both n xs ys ∙ ap (λ m. take n xs ++ take m ys) (sym less))
 
 drop_both : {X : Type 0} (n : ℕ) (xs ys : List X) → drop n (xs ++ ys) ≡ drop n xs ++ drop (n - length xs) ys
-drop_both n [] ys = let same : n - 0 ≡ n = omega arith in ap (λ n. drop n ys) (sym same) ∙ ap (λ l. l ++ drop (n - 0) ys) (sym (drop_none n))
+drop_both n [] ys = let same : n - 0 ≡ n = omega arith in ap (λ n. drop n ys) (sym same)
+    ∙ ap (λ l. l ++ drop (n - 0) ys) (sym (drop_none n))
 drop_both zero (x ∷ xs) ys = let none : zero - length (x ∷ xs) ≡ 0 = omega arith in ap (λ n. x ∷ xs ++ drop n ys) (sym none)
 drop_both (suc n) (x ∷ xs) ys =
     let less : suc n - length (x ∷ xs) ≡ n - length xs = omega arith in
@@ -37,22 +39,26 @@ module _ (size offset : ℕ) (piece bytes : List ℕ) (is_size : size ≡ max (l
 
   front : take offset (resized size bytes) ≡ resized offset bytes
   front = ap (take offset) longer ∙ take_both offset bytes (replicate (size - length bytes) 0)
-      ∙ ap (λ l. take offset bytes ++ l) (take-replicate (offset - length bytes) (size - length bytes) 0 (omega (arith, is_size)))
+      ∙ ap (λ l. take offset bytes ++ l) (take-replicate (offset - length bytes) (size - length bytes) 0 (omega
+      (arith, is_size)))
 
   abbrev end : ℕ
   end = offset + length piece
 
   no_zeros : replicate {A = ℕ} ((size - length bytes) - (end - length bytes)) 0 ≡ []
-  no_zeros = let none : (size - length bytes) - (end - length bytes) ≡ 0 = omega (arith, is_size) in ap (λ n. replicate {A = ℕ} n 0) none
+  no_zeros = let none : (size - length bytes) - (end - length bytes) ≡ 0 = omega (arith, is_size) in
+      ap (λ n. replicate {A = ℕ} n 0) none
 
   no_gap : drop {A = ℕ} (end - length bytes) (replicate (size - length bytes) 0) ≡ []
   no_gap = drop-replicate (end - length bytes) (size - length bytes) 0 ∙ no_zeros
 
   back : drop end (resized size bytes) ≡ drop end bytes
-  back = ap (drop end) longer ∙ drop_both end bytes (replicate (size - length bytes) 0) ∙ ap (λ l. drop end bytes ++ l) no_gap ∙ append-nil (drop end bytes)
+  back = ap (drop end) longer ∙ drop_both end bytes (replicate (size - length bytes) 0)
+      ∙ ap (λ l. drop end bytes ++ l) no_gap ∙ append-nil (drop end bytes)
 
   pub overwritten_is : rewritten size offset piece bytes ≡ overwritten offset (take (length piece) piece) bytes
-  overwritten_is = ap (λ l. l ++ piece ++ drop (offset + length piece) (resized size bytes)) front ∙ ap (λ l. resized offset bytes ++ piece ++ l) back
+  overwritten_is = ap (λ l. l ++ piece ++ drop (offset + length piece) (resized size bytes)) front
+      ∙ ap (λ l. resized offset bytes ++ piece ++ l) back
       ∙ ap (λ l. overwritten offset l bytes) (sym (take_all (length piece) piece (omega arith)))
 
 -- a size, and no piece
@@ -66,10 +72,12 @@ length-resized size bytes =
     let rest = length-replicate {A = ℕ} (size - length bytes) 0 in
     omega (arith, both, first, rest)
 
-pub length-rewritten : (size offset : ℕ) (piece bytes : List ℕ) → offset + length piece ≤ size → length (rewritten size offset piece bytes) ≡ size
+pub length-rewritten : (size offset : ℕ) (piece bytes : List ℕ) → offset + length piece ≤ size →
+    length (rewritten size offset piece bytes) ≡ size
 length-rewritten size offset piece bytes fits =
     let whole = length-resized size bytes in
-    let all = length-append (take offset (resized size bytes) ++ piece) (drop (offset + length piece) (resized size bytes)) in
+    let all = length-append (take offset (resized size bytes) ++ piece) (drop (offset + length piece) (resized size
+    bytes)) in
     let both = length-append (take offset (resized size bytes)) piece in
     let first = length-take offset (resized size bytes) in
     let last = length-drop (offset + length piece) (resized size bytes) in

@@ -37,7 +37,8 @@ is_held false t h = h
 
 -- why a node of a kind was not found
 pub found_error : (nodes : ByBytes PathNode) (h : List ℕ) (kind : Kind) (e : SrvErr) → IsFound nodes h kind (Err e) →
-    (P : SrvErr → Type 0) → (get nodes h ≡ None → P Stale) → (IsSomeAnd (get nodes h) (λ p. p.kind ≢ kind) → P WrongKind) → P e
+    (P : SrvErr → Type 0) → (get nodes h ≡ None → P Stale) → (IsSomeAnd (get nodes h) (λ p. p.kind ≢ kind) →
+    P WrongKind) → P e
 found_error nodes h kind Stale f P stale other = stale f
 found_error nodes h kind WrongKind f P stale other = other f
 found_error nodes h kind e f P stale other = absurd f
@@ -49,13 +50,16 @@ found_dir_error nodes h NotDir f P stale other = other f
 found_dir_error nodes h e f P stale other = absurd f
 
 -- a node of another kind has no such content
-pub no_view : {X : Type 0} (view : Content → Option X) (kind : Kind) (k : Kept) (h : List ℕ) → ((x : Kind) (b : List ℕ) (m : Names) → x ≢ kind → view (content_of x b m) ≡ None) →
+pub no_view : {X : Type 0} (view : Content → Option X) (kind : Kind) (k : Kept) (h : List ℕ) →
+    ((x : Kind) (b : List ℕ) (m : Names) → x ≢ kind → view (content_of x b m) ≡ None) →
     IsSomeAnd (get k.nodes h) (λ p. p.kind ≢ kind) → IsNo view (the_tree k) h
 no_view view kind k h none other =
     let p = some_and (get k.nodes h) (λ (p : PathNode). p.kind ≢ kind) other in
-    is_some_and (λ (n : Node). view n.content ≡ None) (node_at-kept k h p.0 p.1) (none p.0.kind (bytes_under k.contents h) (names_of k.paths h) p.2)
+    is_some_and (λ (n : Node). view n.content ≡ None) (node_at-kept k h p.0 p.1) (none p.0.kind (bytes_under
+    k.contents h) (names_of k.paths h) p.2)
 
-module _ (held : Bool) (limits : ServerLimits) (next bytes : ℕ) (k : Kept) (sound : held ≡ true → IsSound limits next bytes k) where
+module _ (held : Bool) (limits : ServerLimits) (next bytes : ℕ) (k : Kept) (sound : held ≡ true →
+    IsSound limits next bytes k) where
   abbrev now : Tree
   now = the_tree k
 
@@ -66,35 +70,65 @@ module _ (held : Bool) (limits : ServerLimits) (next bytes : ℕ) (k : Kept) (so
   stays is = ap (λ b. cond b (Some now) None) is
 
   -- what is told where a node was not found
-  pub told_stale : (h : List ℕ) → get k.nodes h ≡ None → (t : Tree) → tree_of held k ≡ Some t → IsStale t h × (tree_of held k ≡ Some t)
-  told_stale h is = held_tree held now (λ t. IsStale t h × (tree_of held k ≡ Some t)) (λ there. (node_at-none k h is, stays there))
+  pub told_stale : (h : List ℕ) → get k.nodes h ≡ None → (t : Tree) → tree_of held k ≡ Some t →
+      IsStale t h × (tree_of held k ≡ Some t)
+  told_stale h is = held_tree held now (λ t. IsStale t h × (tree_of held k ≡ Some t)) (λ there. (
+    node_at-none k h is,
+    stays there,
+  ))
 
-  told_not_dir : (h : List ℕ) → IsSomeAnd (get k.nodes h) (λ p. p.kind ≢ Dir) → (t : Tree) → tree_of held k ≡ Some t → IsNo names_in t h × (tree_of held k ≡ Some t)
-  told_not_dir h other = held_tree held now (λ t. IsNo names_in t h × (tree_of held k ≡ Some t)) (λ there. (no_view names_in Dir k h no_names other, stays there))
+  told_not_dir : (h : List ℕ) → IsSomeAnd (get k.nodes h) (λ p. p.kind ≢ Dir) → (t : Tree) →
+      tree_of held k ≡ Some t → IsNo names_in t h × (tree_of held k ≡ Some t)
+  told_not_dir h other = held_tree held now (λ t. IsNo names_in t h × (tree_of held k ≡ Some t)) (λ there. (
+    no_view
+        names_in Dir k h no_names other,
+    stays there,
+  ))
 
   -- ANY NODE
 
   pub attr-ok : (h : List ℕ) (p : PathNode) (size links : ℕ) (time : Time) → get k.nodes h ≡ Some p →
       (held ≡ true → (size ≡ size_of (node_here k h p).content) × (links ≡ links_of now h (node_here k h p).content)) →
-      Attr the_server h (Ok (record { kind = p.kind; number = p.number; mode = p.mode; uid = p.uid; gid = p.gid; size = size; links = links; time = time })) the_server
+      Attr the_server h (Ok (record {
+        kind = p.kind;
+        number = p.number;
+        mode = p.mode;
+        uid = p.uid;
+        gid =
+            p.gid;
+        size = size;
+        links = links;
+        time = time;
+      })) the_server
   attr-ok h p size links time is told =
-      let a : NodeAttr = record { kind = p.kind; number = p.number; mode = p.mode; uid = p.uid; gid = p.gid; size = size; links = links; time = time } in
+      let a : NodeAttr = record {
+        kind = p.kind;
+        number = p.number;
+        mode = p.mode;
+        uid = p.uid;
+        gid = p.gid;
+        size =
+            size;
+        links = links;
+        time = time;
+      } in
       record {
-        tree = held_tree held now (λ t. (IsSomeAnd (node_at t h) (IsAttr t h a) × (tree_of held k ≡ Some t)) × OnlySoft (NodeErr h t)) (λ there. (
-          (
-            is_some_and (IsAttr now h a) (node_at-kept k h p is) (record {
-              kind = sym (its_kind p.kind (bytes_under k.contents h) (names_of k.paths h));
-              number = refl;
-              mode = refl;
-              uid = refl;
-              gid = refl;
-              size = (told there).0;
-              links = (told there).1;
-            }),
-            stays there,
-          ),
-          node_soft now h (node_here k h p) (node_at-kept k h p is),
-        ));
+        tree = held_tree held now (λ t. (IsSomeAnd (node_at t h) (IsAttr t h a) × (tree_of held k ≡ Some t)) ×
+            OnlySoft (NodeErr h t)) (λ there. (
+              (
+                is_some_and (IsAttr now h a) (node_at-kept k h p is) (record {
+                  kind = sym (its_kind p.kind (bytes_under k.contents h) (names_of k.paths h));
+                  number = refl;
+                  mode = refl;
+                  uid = refl;
+                  gid = refl;
+                  size = (told there).0;
+                  links = (told there).1;
+                }),
+                stays there,
+              ),
+              node_soft now h (node_here k h p) (node_at-kept k h p is),
+            ));
         limits = refl;
         faults = refl;
       }
@@ -102,41 +136,54 @@ module _ (held : Bool) (limits : ServerLimits) (next bytes : ℕ) (k : Kept) (so
   pub attr-stale : (h : List ℕ) → get k.nodes h ≡ None → Attr the_server h (Err Stale) the_server
   attr-stale h is = record { tree = told_stale h is; limits = refl; faults = refl }
 
-  pub set_attr-stale : (h : List ℕ) (mode uid gid : ℕ) → get k.nodes h ≡ None → SetAttr the_server h mode uid gid (Err Stale) the_server
+  pub set_attr-stale : (h : List ℕ) (mode uid gid : ℕ) → get k.nodes h ≡ None →
+      SetAttr the_server h mode uid gid (Err Stale) the_server
   set_attr-stale h mode uid gid is = record { tree = told_stale h is; limits = refl; faults = refl }
 
   -- NAMES
 
-  pub lookup-err : (h name : List ℕ) (e : SrvErr) → IsFoundDir k.nodes h (Err e) → Lookup the_server h name (Err e) the_server
+  pub lookup-err : (h name : List ℕ) (e : SrvErr) → IsFoundDir k.nodes h (Err e) →
+      Lookup the_server h name (Err e) the_server
   lookup-err h name e found = found_dir_error k.nodes h e found (λ e. Lookup the_server h name (Err e) the_server)
       (λ is. record { tree = told_stale h is; limits = refl; faults = refl })
       (λ is. record { tree = told_not_dir h is; limits = refl; faults = refl })
 
-  pub lookup-ok : (h name x : List ℕ) (p : PathNode) → (get k.nodes h ≡ Some p) × (p.kind ≡ Dir) → get k.paths (h ++ name) ≡ Some x → Lookup the_server h name (Ok x) the_server
+  pub lookup-ok : (h name x : List ℕ) (p : PathNode) → (get k.nodes h ≡ Some p) × (p.kind ≡ Dir) →
+      get k.paths (h ++ name) ≡ Some x → Lookup the_server h name (Ok x) the_server
   lookup-ok h name x p is leads = record {
-    tree = held_tree held now (λ t. ((target t h name ≡ Some x) × (tree_of held k ≡ Some t)) × OnlySoft (LookupErr h name t)) (λ there.
+    tree = held_tree held now (λ t. ((target t h name ≡ Some x) × (tree_of held k ≡ Some t)) × OnlySoft (LookupErr h
+        name t)) (λ there.
         let at = target_is limits next bytes k (sound there) h p is.0 is.1 name ∙ leads in
         ((at, stays there), lookup_soft now h name x at));
     limits = refl;
     faults = refl;
   }
 
-  lacks : (h name : List ℕ) (p : PathNode) → held ≡ true → (get k.nodes h ≡ Some p) × (p.kind ≡ Dir) → get k.paths (h ++ name) ≡ None → LacksName now h name
+  lacks : (h name : List ℕ) (p : PathNode) → held ≡ true → (get k.nodes h ≡ Some p) × (p.kind ≡ Dir) →
+      get k.paths (h ++ name) ≡ None → LacksName now h name
   lacks h name p there is none =
       is_some_and (λ (m : Names). get m name ≡ None) (names_at-is limits next bytes k (sound there) h p is.0 is.1)
       (get-names_of h (fits limits next bytes k (sound there) h p is.0) k.paths name ∙ none)
 
-  pub lookup-none : (h name : List ℕ) (p : PathNode) → (get k.nodes h ≡ Some p) × (p.kind ≡ Dir) → get k.paths (h ++ name) ≡ None → Lookup the_server h name (Err NoEnt) the_server
-  lookup-none h name p is none = record { tree = held_tree held now (λ t. LacksName t h name × (tree_of held k ≡ Some t)) (λ there. (lacks h name p there is none, stays there)); limits = refl; faults = refl }
+  pub lookup-none : (h name : List ℕ) (p : PathNode) → (get k.nodes h ≡ Some p) × (p.kind ≡ Dir) →
+      get k.paths (h ++ name) ≡ None → Lookup the_server h name (Err NoEnt) the_server
+  lookup-none h name p is none = record {
+    tree = held_tree held now (λ t. LacksName t h name × (tree_of held k ≡ Some
+        t)) (λ there. (lacks h name p there is none, stays there));
+    limits = refl;
+    faults = refl;
+  }
 
   pub list-err : (h : List ℕ) (e : SrvErr) → IsFoundDir k.nodes h (Err e) → ListNames the_server h (Err e) the_server
   list-err h e found = found_dir_error k.nodes h e found (λ e. ListNames the_server h (Err e) the_server)
       (λ is. record { tree = told_stale h is; limits = refl; faults = refl })
       (λ is. record { tree = told_not_dir h is; limits = refl; faults = refl })
 
-  pub list-ok : (h : List ℕ) (p : PathNode) (rows : Vec Listed Global) → (get k.nodes h ≡ Some p) × (p.kind ≡ Dir) → Lists rows.items (names_of k.paths h) → ListNames the_server h (Ok rows) the_server
+  pub list-ok : (h : List ℕ) (p : PathNode) (rows : Vec Listed Global) → (get k.nodes h ≡ Some p) × (p.kind ≡ Dir) →
+      Lists rows.items (names_of k.paths h) → ListNames the_server h (Ok rows) the_server
   list-ok h p rows is told = record {
-    tree = held_tree held now (λ t. (IsSomeAnd (names_at t h) (Lists rows.items) × (tree_of held k ≡ Some t)) × OnlySoft (DirErr h t)) (λ there.
+    tree = held_tree held now (λ t. (IsSomeAnd (names_at t h) (Lists rows.items) × (tree_of held k ≡ Some t)) ×
+        OnlySoft (DirErr h t)) (λ there.
         let at = names_at-is limits next bytes k (sound there) h p is.0 is.1 in
         ((is_some_and (Lists rows.items) at told, stays there), dir_soft now h (names_of k.paths h) at));
     limits = refl;
@@ -151,7 +198,8 @@ module _ (held : Bool) (limits : ServerLimits) (next bytes : ℕ) (k : Kept) (so
         (λ is. record { tree = told_stale h is; limits = refl; faults = refl })
         (λ is. record { tree = told_not_dir h is; limits = refl; faults = refl })
 
-    pub make-exists : (x : List ℕ) (p : PathNode) → (get k.nodes h ≡ Some p) × (p.kind ≡ Dir) → get k.paths (h ++ name) ≡ Some x → Make content more the_server h name (Err Exists) the_server
+    pub make-exists : (x : List ℕ) (p : PathNode) → (get k.nodes h ≡ Some p) × (p.kind ≡ Dir) →
+        get k.paths (h ++ name) ≡ Some x → Make content more the_server h name (Err Exists) the_server
     make-exists x p is leads = record {
       tree = held_tree held now (λ t. HasName t h name × (tree_of held k ≡ Some t)) (λ there.
           (rw (target_is limits next bytes k (sound there) h p is.0 is.1 name ∙ leads) refl, stays there));
@@ -159,22 +207,32 @@ module _ (held : Bool) (limits : ServerLimits) (next bytes : ℕ) (k : Kept) (so
       faults = refl;
     }
 
-    pub make-full : (limits.nodes ≤ len k.nodes) ⊎ (limits.bytes < bytes + (512 + more)) → Make content more the_server h name (Err Full) the_server
+    pub make-full : (limits.nodes ≤ len k.nodes) ⊎ (limits.bytes < bytes + (512 + more)) →
+        Make content more the_server h name (Err Full) the_server
     make-full over = record {
-      tree = held_tree held now (λ t. NoRoom limits t 1 0 (512 + more) × (tree_of held k ≡ Some t)) (λ there. (no_room there over, stays there));
+      tree = held_tree held now (λ t. NoRoom limits t 1 0 (512 + more) × (tree_of held k ≡ Some t)) (λ there.
+          (no_room there over, stays there));
       limits = refl;
       faults = refl;
     }
       where
-        no_room : held ≡ true → (limits.nodes ≤ len k.nodes) ⊎ (limits.bytes < bytes + (512 + more)) → NoRoom limits now 1 0 (512 + more)
+        no_room : held ≡ true → (limits.nodes ≤ len k.nodes) ⊎ (limits.bytes < bytes + (512 + more)) →
+            NoRoom limits now 1 0 (512 + more)
         no_room there (inl nodes) = inl (let size = len-nodes_of k.nodes k.contents k.paths in omega (arith, nodes, size))
         no_room there (inr most) = inr (let all = (sound there).bytes_used in omega (arith, most, all))
 
     -- with what the call has made
-    pub make-ok : (x : List ℕ) (p : PathNode) (new : Option Tree) (limits' : ServerLimits) → (get k.nodes h ≡ Some p) × (p.kind ≡ Dir) → get k.paths (h ++ name) ≡ None → limits' ≡ limits →
-        Made now h name content x new → Make content more the_server h name (Ok x) (record { tree = new; limits = limits'; faults = 0 })
+    pub make-ok : (x : List ℕ) (p : PathNode) (new : Option Tree) (limits' : ServerLimits) →
+        (get k.nodes h ≡ Some p) × (p.kind ≡ Dir) → get k.paths (h ++ name) ≡ None → limits' ≡ limits →
+        Made now h name content x new → Make content more the_server h name (Ok x) (record {
+          tree = new;
+          limits =
+              limits';
+          faults = 0;
+        })
     make-ok x p new limits' is none same made = record {
-      tree = held_tree held now (λ t. Made t h name content x new × OnlySoft (MakeErr limits h name more t)) (λ there. (made, make_soft limits now h name more (lacks h name p there is none)));
+      tree = held_tree held now (λ t. Made t h name content x new × OnlySoft (MakeErr limits h name more t)) (λ
+          there. (made, make_soft limits now h name more (lacks h name p there is none)));
       limits = same;
       faults = refl;
     }

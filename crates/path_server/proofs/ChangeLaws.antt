@@ -28,13 +28,22 @@ use Rattle.path_server.proofs.Serials.{length-serial_bytes}
 use Rattle.path_server.proofs.CallLaws.{held_tree}
 
 -- the nodes after one is put in
-pub nodes_put : (nodes : ByBytes PathNode) (contents : Contents) (paths : Paths) (h : List ℕ) (p : PathNode) → nodes_of (insert nodes h p) contents paths ≡ insert (nodes_of nodes contents paths) h (full_node contents paths h p)
-nodes_put nodes contents paths h p = same_map nat_list_cmp_total bytes_exact _ _ (λ q. elim (bytes_or_not q h) as (λ _. get (nodes_of (insert nodes h p) contents paths) q ≡ get (insert (nodes_of nodes contents paths) h (full_node contents paths h p)) q) [
-  | inl same ↦ subst (λ k. get (nodes_of (insert nodes h p) contents paths) k ≡ get (insert (nodes_of nodes contents paths) h (full_node contents paths h p)) k) (sym same)
-      (get-nodes_of (insert nodes h p) contents paths h ∙ ap (option_map (full_node contents paths h)) (get-insert_same nodes h p) ∙ sym (get-insert_same (nodes_of nodes contents paths) h (full_node contents paths h p)))
-  | inr ne ↦ get-nodes_of (insert nodes h p) contents paths q ∙ ap (option_map (full_node contents paths q)) (get-insert_other nodes h p q ne)
-      ∙ sym (get-insert_other (nodes_of nodes contents paths) h (full_node contents paths h p) q ne ∙ get-nodes_of nodes contents paths q)
-])
+pub nodes_put : (nodes : ByBytes PathNode) (contents : Contents) (paths : Paths) (h : List ℕ) (p : PathNode) →
+    nodes_of (insert nodes h p) contents paths ≡ insert (nodes_of nodes contents paths) h (full_node contents paths h
+    p)
+nodes_put nodes contents paths h p = same_map nat_list_cmp_total bytes_exact _ _ (λ q. elim (bytes_or_not q h) as (λ
+    _. get (nodes_of (insert nodes h p) contents paths) q ≡ get (insert (nodes_of nodes contents paths) h (full_node
+    contents paths h p)) q) [
+      | inl same ↦ subst (λ k. get (nodes_of (insert nodes h p) contents paths) k ≡ get (insert (nodes_of nodes contents
+          paths) h (full_node contents paths h p)) k) (sym same)
+          (get-nodes_of (insert nodes h p) contents paths h ∙ ap (option_map (full_node contents paths h))
+          (get-insert_same nodes h p) ∙ sym (get-insert_same (nodes_of nodes contents paths) h (full_node contents
+          paths h p)))
+      | inr ne ↦ get-nodes_of (insert nodes h p) contents paths q
+          ∙ ap (option_map (full_node contents paths q)) (get-insert_other nodes h p q ne)
+          ∙ sym (get-insert_other (nodes_of nodes contents paths) h (full_node contents paths h p) q ne
+          ∙ get-nodes_of nodes contents paths q)
+    ])
 
 -- A FRESH SERVER
 
@@ -46,7 +55,8 @@ unfolding used
 used-none root = total-none nat_list_cmp_total (λ (n : Node). used_by n.content) empty (λ k v at. absurd (some_none at (get-empty (slice_cmp nat_cmp) k)))
 
 links-bare : (root q : List ℕ) → links (bare root) q ≡ 0
-links-bare root q = links-none (bare root) q (λ named. let t = target_found (bare root) named.0 named.1 q named.2 in some_none t.is_node (get-empty (slice_cmp nat_cmp) named.0))
+links-bare root q = links-none (bare root) q (λ named. let t = target_found (bare root) named.0 named.1 q named.2 in
+    some_none t.is_node (get-empty (slice_cmp nat_cmp) named.0))
 
 module _ (number : ℕ) (contents : Contents) where
   abbrev root : List ℕ
@@ -62,21 +72,28 @@ module _ (number : ℕ) (contents : Contents) where
   no_names = names_of-none root (length-serial_bytes number) empty (λ x. get-empty (slice_cmp nat_cmp) _)
 
   no_nodes : nodes_of empty contents empty ≡ empty
-  no_nodes = same_map nat_list_cmp_total bytes_exact _ _ (λ q. get-nodes_of empty contents empty q ∙ ap (option_map (full_node contents empty q)) (get-empty (slice_cmp nat_cmp) q) ∙ sym (get-empty (slice_cmp nat_cmp) q))
+  no_nodes = same_map nat_list_cmp_total bytes_exact _ _ (λ q. get-nodes_of empty contents empty q
+      ∙ ap (option_map (full_node contents empty q)) (get-empty (slice_cmp nat_cmp) q)
+      ∙ sym (get-empty (slice_cmp nat_cmp) q))
 
   abbrev fresh_tree : Tree
   fresh_tree = with_node (bare root) root (new_node number (NamesOf empty))
 
   tree_fresh : the_tree kept_fresh ≡ fresh_tree
   tree_fresh = ap (λ (m : ByBytes Node). let t : Tree = record { root = root; nodes = m } in t)
-      (nodes_put empty contents empty root first_node ∙ ap (λ m. insert (nodes_of empty contents empty) root (new_node number (NamesOf m))) no_names ∙ ap (λ m. insert m root (new_node number (NamesOf empty))) no_nodes)
+      (nodes_put empty contents empty root first_node ∙ ap (λ m. insert (nodes_of empty contents empty) root
+      (new_node number (NamesOf m))) no_names ∙ ap (λ m. insert m root (new_node number (NamesOf empty)))
+      no_nodes)
 
   fresh : IsFresh (Some (the_tree kept_fresh))
   fresh = record { root = root; number = number; after = ap Some tree_fresh }
 
-  at_root : (P : List ℕ → PathNode → Type 0) → P root first_node → (q : List ℕ) (x : PathNode) → get kept_fresh.nodes q ≡ Some x → P q x
+  at_root : (P : List ℕ → PathNode → Type 0) → P root first_node → (q : List ℕ) (x : PathNode) →
+      get kept_fresh.nodes q ≡ Some x → P q x
   at_root P here q x e = elim (bytes_or_not q root) as (λ _. P q x) [
-    | inl same ↦ subst (λ k. P k x) (sym same) (subst (P root) (let f : Some first_node ≡ Some x = sym (get-insert_same empty root first_node) ∙ ap (get kept_fresh.nodes) (sym same) ∙ e in let one : first_node ≡ x = cc in one) here)
+    | inl same ↦ subst (λ k. P k x) (sym same) (subst (P root) (let f : Some first_node ≡ Some x =
+        sym (get-insert_same empty root first_node) ∙ ap (get kept_fresh.nodes) (sym same)
+        ∙ e in let one : first_node ≡ x = cc in one) here)
     | inr ne ↦ absurd (some_none (sym (get-insert_other empty root first_node q ne) ∙ e) (get-empty (slice_cmp nat_cmp) q))
   ]
 
@@ -91,7 +108,8 @@ module _ (number : ℕ) (contents : Contents) where
   links_fresh : links (the_tree kept_fresh) root ≡ 0
   links_fresh =
       let same : links (the_tree kept_fresh) root ≡ links fresh_tree root = ap (λ t. links t root) tree_fresh in
-      let more = links-with_node (bare root) root (new_node number (NamesOf empty)) root (get-empty (slice_cmp nat_cmp) root) in
+      let more = links-with_node (bare root) root (new_node number (NamesOf empty)) root (get-empty (slice_cmp
+      nat_cmp) root) in
       let none = names_to-new Dir [] root in
       let before = links-bare root root in
       omega (arith, same, more, none, before)
@@ -102,7 +120,8 @@ module _ (number : ℕ) (contents : Contents) where
   counted_fresh : IsCounted kept_fresh root first_node
   counted_fresh = record {
     names = sym size_fresh;
-    subdirs = let most = subdirs-most (the_tree kept_fresh) (names_of empty root) in let size = size_fresh in omega (arith, most, size);
+    subdirs = let most = subdirs-most (the_tree kept_fresh) (names_of empty root) in let size = size_fresh in
+        omega (arith, most, size);
     links = sym links_fresh;
   }
 
@@ -113,20 +132,27 @@ module _ (number : ℕ) (contents : Contents) where
     counted = at_root (IsCounted kept_fresh) counted_fresh;
     bytes_used = sym used_fresh;
     bytes_most = omega arith;
-    nodes_most = let one : len kept_fresh.nodes ≡ 1 = len-insert nat_list_cmp_total empty root first_node ∙ ap (λ o. cond (is_some o) (len (empty {X = PathNode} {R = slice_cmp nat_cmp})) (len (empty {X = PathNode} {R = slice_cmp nat_cmp}) + 1)) (get-empty (slice_cmp nat_cmp) root) ∙ ap (λ n. n + 1) (len-empty (slice_cmp nat_cmp) PathNode) in omega (arith, one);
+    nodes_most = let one : len kept_fresh.nodes ≡ 1 = len-insert nat_list_cmp_total empty root first_node
+        ∙ ap (λ o. cond (is_some o) (len (empty {X = PathNode} {R = slice_cmp nat_cmp})) (len (empty {X =
+        PathNode} {R = slice_cmp nat_cmp}) + 1)) (get-empty (slice_cmp nat_cmp) root)
+        ∙ ap (λ n. n + 1) (len-empty (slice_cmp nat_cmp) PathNode) in omega (arith, one);
   }
 
 -- the same, of what a server came to
-module _ (number : ℕ) (root : List ℕ) (nodes : ByBytes PathNode) (contents : Contents) (paths : Paths) (is_root : root ≡ serial_bytes number) (is_nodes : nodes ≡ insert empty root (made_node Dir number 0)) (is_paths : paths ≡ empty) where
+module _ (number : ℕ) (root : List ℕ) (nodes : ByBytes PathNode) (contents : Contents) (paths : Paths) (is_root :
+    root ≡ serial_bytes number) (is_nodes : nodes ≡ insert empty root (made_node Dir number 0)) (is_paths : paths ≡
+    empty) where
   pub fresh_after : IsFresh (Some (the_tree (kept_as root nodes contents paths)))
   fresh_after = rw (is_nodes, is_paths, is_root) (fresh number contents)
 
-  pub sound_started : (limits : ServerLimits) (next : ℕ) → next ≡ number + 1 → IsSound limits next 0 (kept_as root nodes contents paths)
+  pub sound_started : (limits : ServerLimits) (next : ℕ) → next ≡ number + 1 →
+      IsSound limits next 0 (kept_as root nodes contents paths)
   sound_started limits next is_next = rw (is_nodes, is_paths, is_root, is_next) (sound_fresh number contents limits)
 
 -- OTHER ATTRIBUTES
 
-module _ (limits : ServerLimits) (next bytes : ℕ) (k : Kept) (h : List ℕ) (p : PathNode) (mode uid gid : ℕ) (is : get k.nodes h ≡ Some p) where
+module _ (limits : ServerLimits) (next bytes : ℕ) (k : Kept) (h : List ℕ) (p : PathNode) (mode uid gid : ℕ) (is : get
+    k.nodes h ≡ Some p) where
   abbrev changed : PathNode
   changed = set_node mode uid gid p
 
@@ -140,11 +166,16 @@ module _ (limits : ServerLimits) (next bytes : ℕ) (k : Kept) (h : List ℕ) (p
   at_now = node_at-kept k h p is
 
   tree_set : the_tree kept_set ≡ edited now h (with_attr mode uid gid)
-  tree_set = ap (λ (m : ByBytes Node). let t : Tree = record { root = k.root; nodes = m } in t) (nodes_put k.nodes k.contents k.paths h changed) ∙ sym (edited-some now h (with_attr mode uid gid) (node_here k h p) at_now)
+  tree_set = ap (λ (m : ByBytes Node). let t : Tree = record { root = k.root; nodes = m } in
+      t) (nodes_put k.nodes k.contents k.paths h changed)
+      ∙ sym (edited-some now h (with_attr mode uid gid) (node_here k h p) at_now)
 
-  by_place : (P : List ℕ → PathNode → Type 0) → P h changed → ((q : List ℕ) (x : PathNode) → get k.nodes q ≡ Some x → P q x) → (q : List ℕ) (x : PathNode) → get (insert k.nodes h changed) q ≡ Some x → P q x
+  by_place : (P : List ℕ → PathNode → Type 0) → P h changed → ((q : List ℕ) (x : PathNode) → get k.nodes q ≡ Some x →
+      P q x) → (q : List ℕ) (x : PathNode) → get (insert k.nodes h changed) q ≡ Some x → P q x
   by_place P here other q x e = elim (bytes_or_not q h) as (λ _. P q x) [
-    | inl same ↦ subst (λ k. P k x) (sym same) (subst (P h) (let f : Some changed ≡ Some x = sym (get-insert_same k.nodes h changed) ∙ ap (get (insert k.nodes h changed)) (sym same) ∙ e in let one : changed ≡ x = cc in one) here)
+    | inl same ↦ subst (λ k. P k x) (sym same) (subst (P h) (let f : Some changed ≡ Some x =
+        sym (get-insert_same k.nodes h changed) ∙ ap (get (insert k.nodes h changed)) (sym same)
+        ∙ e in let one : changed ≡ x = cc in one) here)
     | inr ne ↦ other q x (sym (get-insert_other k.nodes h changed q ne) ∙ e)
   ]
 
@@ -156,13 +187,16 @@ module _ (limits : ServerLimits) (next bytes : ℕ) (k : Kept) (h : List ℕ) (p
 
   kinds_set : (q : List ℕ) → kind_at kept_set q ≡ kind_at k q
   kinds_set q = elim (bytes_or_not q h) as (λ _. kind_at kept_set q ≡ kind_at k q) [
-    | inl same ↦ ap (option_map (λ (p : PathNode). p.kind)) (ap (get (insert k.nodes h changed)) same ∙ get-insert_same k.nodes h changed) ∙ sym (ap (option_map (λ (p : PathNode). p.kind)) (ap (get k.nodes) same ∙ is))
+    | inl same ↦ ap (option_map (λ (p : PathNode). p.kind)) (ap (get (insert k.nodes h changed)) same
+        ∙ get-insert_same k.nodes h changed) ∙ sym (ap (option_map (λ (p : PathNode). p.kind)) (ap (get k.nodes)
+        same ∙ is))
     | inr ne ↦ ap (option_map (λ (p : PathNode). p.kind)) (get-insert_other k.nodes h changed q ne)
   ]
 
   links_set : (q : List ℕ) → links (the_tree kept_set) q ≡ links now q
   links_set q =
-      let same : links (the_tree kept_set) q ≡ links (edited now h (with_attr mode uid gid)) q = ap (λ t. links t q) tree_set in
+      let same : links (the_tree kept_set) q ≡ links (edited now h (with_attr mode uid gid)) q =
+      ap (λ t. links t q) tree_set in
       let change = links-edited now h (with_attr mode uid gid) (node_here k h p) q at_now in
       omega (arith, same, change)
 
@@ -179,13 +213,24 @@ module _ (limits : ServerLimits) (next bytes : ℕ) (k : Kept) (h : List ℕ) (p
         let all = sound.bytes_used in
         omega (arith, same, change, all);
     bytes_most = sound.bytes_most;
-    nodes_most = let one : len (insert k.nodes h changed) ≡ len k.nodes = len-insert nat_list_cmp_total k.nodes h changed ∙ ap (λ o. cond (is_some o) (len k.nodes) (len k.nodes + 1)) is in let most = sound.nodes_most in omega (arith, one, most);
+    nodes_most = let one : len (insert k.nodes h changed) ≡ len k.nodes =
+        len-insert nat_list_cmp_total k.nodes h changed ∙ ap (λ o. cond (is_some o) (len k.nodes) (len k.nodes + 1))
+        is in let most = sound.nodes_most in omega (arith, one, most);
   }
 
-  pub set_attr-ok : (held : Bool) → SetAttr (record { tree = tree_of held k; limits = limits; faults = 0 }) h mode uid gid (Ok tt) (record { tree = tree_of held kept_set; limits = limits; faults = 0 })
+  pub set_attr-ok : (held : Bool) → SetAttr (record {
+    tree = tree_of held k;
+    limits = limits;
+    faults =
+        0;
+  }) h mode uid gid (Ok tt) (record { tree = tree_of held kept_set; limits = limits; faults = 0 })
   set_attr-ok held = record {
-    tree = held_tree held now (λ t. (tree_of held kept_set ≡ Some (edited t h (with_attr mode uid gid))) × OnlySoft (NodeErr h t)) (λ there.
-        (ap (λ b. cond b (Some (the_tree kept_set)) None) there ∙ ap Some tree_set, node_soft now h (node_here k h p) at_now));
+    tree = held_tree held now (λ t. (tree_of held kept_set ≡ Some (edited t h (with_attr mode uid gid))) × OnlySoft
+        (NodeErr h t)) (λ there. (
+          ap (λ b. cond b (Some (the_tree kept_set)) None) there
+              ∙ ap Some tree_set,
+          node_soft now h (node_here k h p) at_now,
+        ));
     limits = refl;
     faults = refl;
   }

@@ -44,12 +44,14 @@ its_kind Dir bytes names = refl
 its_kind Link bytes names = refl
 
 -- the names of a node that has any are its directory's
-pub its_names : (kind : Kind) (bytes : List ℕ) (names m : Names) → names_in (content_of kind bytes names) ≡ Some m → names ≡ m
+pub its_names : (kind : Kind) (bytes : List ℕ) (names m : Names) → names_in (content_of kind bytes names) ≡ Some m →
+    names ≡ m
 its_names File bytes names m is = absurd (some_none is refl)
 its_names Dir bytes names m is = (let same : Some names ≡ Some m = is in cc)
 its_names Link bytes names m is = absurd (some_none is refl)
 
-pub has_names : (kind : Kind) (bytes : List ℕ) (names : Names) → elim (names_in (content_of kind bytes names)) as (λ _. Bool) [ None ↦ false | Some m ↦ true ] ≡ is_dir kind
+pub has_names : (kind : Kind) (bytes : List ℕ) (names : Names) →
+    elim (names_in (content_of kind bytes names)) as (λ _. Bool) [ None ↦ false | Some m ↦ true ] ≡ is_dir kind
 has_names File bytes names = refl
 has_names Dir bytes names = refl
 has_names Link bytes names = refl
@@ -57,7 +59,8 @@ has_names Link bytes names = refl
 -- to nothing do the names of a new node lead
 pub names_to-new : (kind : Kind) (bytes q : List ℕ) → names_to q (content_of kind bytes empty) ≡ 0
 names_to-new File bytes q = refl
-names_to-new Dir bytes q = total-none nat_list_cmp_total _ empty (λ k x is. absurd (some_none is (get-empty (slice_cmp nat_cmp) k)))
+names_to-new Dir bytes q = total-none nat_list_cmp_total _ empty (λ k x is. absurd (some_none is (get-empty
+    (slice_cmp nat_cmp) k)))
 names_to-new Link bytes q = refl
 
 -- BYTES
@@ -66,15 +69,18 @@ pub bytes-insert_same : (contents : Contents) (h b : List ℕ) → bytes_under (
 unfolding bytes_under
 bytes-insert_same contents h b = ap (λ o. unwrap_or o []) (get-insert_same contents h b)
 
-pub bytes-insert_other : (contents : Contents) (h b q : List ℕ) → q ≢ h → bytes_under (insert contents h b) q ≡ bytes_under contents q
+pub bytes-insert_other : (contents : Contents) (h b q : List ℕ) → q ≢ h →
+    bytes_under (insert contents h b) q ≡ bytes_under contents q
 unfolding bytes_under
 bytes-insert_other contents h b q ne = ap (λ o. unwrap_or o []) (get-insert_other contents h b q ne)
 
 pub added-dir : (h b : List ℕ) (contents : Contents) → IsAdded Dir h b contents contents
 added-dir h b contents = record { here = λ names. refl; others = λ q ne. refl }
 
-pub added-bytes : (kind : Kind) (h b c : List ℕ) (old new : Contents) → c ≡ b → new ≡ insert old h c → IsAdded kind h b old new
+pub added-bytes : (kind : Kind) (h b c : List ℕ) (old new : Contents) → c ≡ b → new ≡ insert old h c →
+    IsAdded kind h b old new
 added-bytes kind h b c old new same is = record {
-  here = λ names. ap (λ m. content_of kind (bytes_under m h) names) is ∙ ap (λ l. content_of kind l names) (bytes-insert_same old h c ∙ same);
+  here = λ names. ap (λ m. content_of kind (bytes_under m h) names) is
+      ∙ ap (λ l. content_of kind l names) (bytes-insert_same old h c ∙ same);
   others = λ q ne. ap (λ m. bytes_under m q) is ∙ bytes-insert_other old h c q ne;
 }

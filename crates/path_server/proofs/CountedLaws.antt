@@ -10,10 +10,12 @@ use Rattle.path_server.specs.declared.node.PathNode.{PathNode}
 use Rattle.path_server.proofs.NodeLaws.{kind_at, same_dirs}
 
 -- the same names, kinds of nodes and names that lead to it
-pub counted_same : (k l : Kept) (h : List ℕ) (p q : PathNode) → names_of l.paths h ≡ names_of k.paths h → ((x : List ℕ) → kind_at l x ≡ kind_at k x) → links (the_tree l) h ≡ links (the_tree k) h →
+pub counted_same : (k l : Kept) (h : List ℕ) (p q : PathNode) → names_of l.paths h ≡ names_of k.paths h →
+    ((x : List ℕ) → kind_at l x ≡ kind_at k x) → links (the_tree l) h ≡ links (the_tree k) h →
     q.names ≡ p.names → q.subdirs ≡ p.subdirs → q.links ≡ p.links → IsCounted k h p → IsCounted l h q
 counted_same k l h p q same kinds leading as_names as_subdirs as_links counted = record {
   names = as_names ∙ counted.names ∙ sym (ap len same);
-  subdirs = as_subdirs ∙ counted.subdirs ∙ sym (ap (subdirs (the_tree l)) same ∙ subdirs-same (the_tree l) (the_tree k) (names_of k.paths h) (λ name x at. same_dirs l k x (kinds x)));
+  subdirs = as_subdirs ∙ counted.subdirs ∙ sym (ap (subdirs (the_tree l)) same
+      ∙ subdirs-same (the_tree l) (the_tree k) (names_of k.paths h) (λ name x at. same_dirs l k x (kinds x)));
   links = as_links ∙ counted.links ∙ sym leading;
 }

@@ -40,14 +40,20 @@ bytes_differ a b ne = elim (bytes_eq a b) as (λ x. bytes_eq a b ≡ x → x ≡
 
 -- a directory's content with other names
 fuller_content : (kind : Kind) (b c : List ℕ) (m n : Names) (f : Names → Names) → kind ≡ Dir → n ≡ f m →
-    content_of kind c n ≡ elim (content_of kind b m) as (λ _. Content) [ BytesOf x ↦ BytesOf x | TextOf x ↦ TextOf x | NamesOf m ↦ NamesOf (f m) ]
+    content_of kind c n ≡ elim (content_of kind b m) as (λ _. Content) [
+      | BytesOf x ↦ BytesOf x
+      | TextOf x ↦ TextOf x
+      | NamesOf m ↦ NamesOf (f m)
+    ]
 fuller_content File b c m n f is e = absurd (let bad : File ≡ Dir = is in cc)
 fuller_content Dir b c m n f is e = ap NamesOf e
 fuller_content Link b c m n f is e = absurd (let bad : Link ≡ Dir = is in cc)
 
 module _ (limits : ServerLimits) (next bytes : ℕ) (k : Kept) (sound : IsSound limits next bytes k) (small : next < 2 ^ 64)
-    (dir name : List ℕ) (p : PathNode) (is : get k.nodes dir ≡ Some p) (is_directory : p.kind ≡ Dir) (new_name : get k.paths (dir ++ name) ≡ None)
-    (kind : Kind) (text : List ℕ) (contents' : Contents) (added : IsAdded kind (serial_bytes next) text k.contents contents') where
+    (dir name : List ℕ) (p : PathNode) (is : get k.nodes dir ≡ Some p) (is_directory : p.kind ≡ Dir) (new_name : get
+    k.paths (dir ++ name) ≡ None)
+    (kind : Kind) (text : List ℕ) (contents' : Contents) (added : IsAdded kind (serial_bytes next) text k.contents
+    contents') where
   abbrev to : List ℕ
   to = serial_bytes next
 
@@ -82,7 +88,8 @@ module _ (limits : ServerLimits) (next bytes : ℕ) (k : Kept) (sound : IsSound 
   apart e = some_none is (ap (get k.nodes) (sym e) ∙ absent)
 
   no_names : names_of k.paths to ≡ empty
-  no_names = names_of-none to (length-serial_bytes next) k.paths (λ x. none_of (get k.paths (to ++ x)) (λ h at. is_some_none (sound.named to x h (length-serial_bytes next) at).0 absent))
+  no_names = names_of-none to (length-serial_bytes next) k.paths (λ x. none_of (get k.paths (to ++ x)) (λ h at.
+      is_some_none (sound.named to x h (length-serial_bytes next) at).0 absent))
 
   -- WHAT IS KEPT AFTER
 
@@ -93,15 +100,19 @@ module _ (limits : ServerLimits) (next bytes : ℕ) (k : Kept) (sound : IsSound 
   kept_to = get-insert_other (insert k.nodes to made) dir (one_more kind p) to apart ∙ get-insert_same k.nodes to made
 
   kept_other : (q : List ℕ) → q ≢ dir → q ≢ to → get nodes_after q ≡ get k.nodes q
-  kept_other q ne ne' = get-insert_other (insert k.nodes to made) dir (one_more kind p) q ne ∙ get-insert_other k.nodes to made q ne'
+  kept_other q ne ne' = get-insert_other (insert k.nodes to made) dir (one_more kind p) q ne
+      ∙ get-insert_other k.nodes to made q ne'
 
   -- a claim of each node that is kept after
-  by_place : (P : List ℕ → PathNode → Type 0) → P dir (one_more kind p) → P to made → ((q : List ℕ) (x : PathNode) → q ≢ dir → q ≢ to → get k.nodes q ≡ Some x → P q x) →
+  by_place : (P : List ℕ → PathNode → Type 0) → P dir (one_more kind p) → P to made → ((q : List ℕ) (x : PathNode) →
+      q ≢ dir → q ≢ to → get k.nodes q ≡ Some x → P q x) →
       (q : List ℕ) (x : PathNode) → get nodes_after q ≡ Some x → P q x
   by_place P at_dir at_to at_other q x e = elim (bytes_or_not q dir) as (λ _. P q x) [
-    | inl same ↦ subst (λ k. P k x) (sym same) (subst (P dir) (let f : Some (one_more kind p) ≡ Some x = sym kept_dir ∙ ap (get nodes_after) (sym same) ∙ e in let one : one_more kind p ≡ x = cc in one) at_dir)
+    | inl same ↦ subst (λ k. P k x) (sym same) (subst (P dir) (let f : Some (one_more kind p) ≡ Some x =
+        sym kept_dir ∙ ap (get nodes_after) (sym same) ∙ e in let one : one_more kind p ≡ x = cc in one) at_dir)
     | inr ne ↦ elim (bytes_or_not q to) as (λ _. P q x) [
-      | inl same ↦ subst (λ k. P k x) (sym same) (subst (P to) (let f : Some made ≡ Some x = sym kept_to ∙ ap (get nodes_after) (sym same) ∙ e in let one : made ≡ x = cc in one) at_to)
+      | inl same ↦ subst (λ k. P k x) (sym same) (subst (P to) (let f : Some made ≡ Some x = sym kept_to
+          ∙ ap (get nodes_after) (sym same) ∙ e in let one : made ≡ x = cc in one) at_to)
       | inr ne' ↦ at_other q x ne ne' (sym (kept_other q ne ne') ∙ e)
     ]
   ]
@@ -137,42 +148,60 @@ module _ (limits : ServerLimits) (next bytes : ℕ) (k : Kept) (sound : IsSound 
 
   node_dir : full_node contents' paths_after dir (one_more kind p) ≡ more old_dir
   node_dir = ap (λ c. let n : Node = record { number = p.number; mode = p.mode; uid = p.uid; gid = p.gid; content = c } in n)
-      (fuller_content p.kind (bytes_under k.contents dir) (bytes_under contents' dir) names (names_of paths_after dir) (λ m. insert m name to) is_directory names_dir)
+      (fuller_content p.kind (bytes_under k.contents dir) (bytes_under contents' dir) names (names_of paths_after
+      dir) (λ m. insert m name to) is_directory names_dir)
 
   node_new : full_node contents' paths_after to made ≡ new_node next content
-  node_new = ap (λ m. new_node next (content_of kind (bytes_under contents' to) m)) names_new ∙ ap (new_node next) (added.here empty)
+  node_new = ap (λ m. new_node next (content_of kind (bytes_under contents' to) m)) names_new
+      ∙ ap (new_node next) (added.here empty)
 
-  node_other : (q : List ℕ) (x : PathNode) → q ≢ dir → q ≢ to → get k.nodes q ≡ Some x → full_node contents' paths_after q x ≡ full_node k.contents k.paths q x
-  node_other q x ne ne' e = ap (λ b. node_of x b (names_of paths_after q)) (added.others q ne') ∙ ap (node_of x (bytes_under k.contents q)) (names_other q (kept_fits k.nodes next sound.serials q x e) ne)
+  node_other : (q : List ℕ) (x : PathNode) → q ≢ dir → q ≢ to → get k.nodes q ≡ Some x →
+      full_node contents' paths_after q x ≡ full_node k.contents k.paths q x
+  node_other q x ne ne' e = ap (λ b. node_of x b (names_of paths_after q)) (added.others q ne')
+      ∙ ap (node_of x (bytes_under k.contents q)) (names_other q (kept_fits k.nodes next sound.serials q x e) ne)
 
-  same_node : (q : List ℕ) → q ≢ dir → q ≢ to → option_map (full_node contents' paths_after q) (get k.nodes q) ≡ option_map (full_node k.contents k.paths q) (get k.nodes q)
-  same_node q ne ne' = elim (get k.nodes q) as (λ o. get k.nodes q ≡ o → option_map (full_node contents' paths_after q) o ≡ option_map (full_node k.contents k.paths q) o) [
-    | None ↦ λ _. refl
-    | Some x ↦ λ e. ap Some (node_other q x ne ne' e)
-  ] refl
+  same_node : (q : List ℕ) → q ≢ dir → q ≢ to → option_map (full_node contents' paths_after q) (get k.nodes q) ≡
+      option_map (full_node k.contents k.paths q) (get k.nodes q)
+  same_node q ne ne' = elim (get k.nodes q) as (λ o. get k.nodes q ≡ o →
+      option_map (full_node contents' paths_after q) o ≡ option_map (full_node k.contents k.paths q) o) [
+        | None ↦ λ _. refl
+        | Some x ↦ λ e. ap Some (node_other q x ne ne' e)
+      ] refl
 
   nodes_are : nodes_of nodes_after contents' paths_after ≡ insert with_new dir (more old_dir)
-  nodes_are = same_map nat_list_cmp_total bytes_exact _ _ (λ q. elim (bytes_or_not q dir) as (λ _. get (nodes_of nodes_after contents' paths_after) q ≡ get (insert with_new dir (more old_dir)) q) [
-    | inl same ↦ subst (λ k. get (nodes_of nodes_after contents' paths_after) k ≡ get (insert with_new dir (more old_dir)) k) (sym same)
-        (get-nodes_of nodes_after contents' paths_after dir ∙ ap (option_map (full_node contents' paths_after dir)) kept_dir ∙ ap Some node_dir ∙ sym (get-insert_same with_new dir (more old_dir)))
-    | inr ne ↦ elim (bytes_or_not q to) as (λ _. get (nodes_of nodes_after contents' paths_after) q ≡ get (insert with_new dir (more old_dir)) q) [
-      | inl same ↦ subst (λ k. get (nodes_of nodes_after contents' paths_after) k ≡ get (insert with_new dir (more old_dir)) k) (sym same)
-          (get-nodes_of nodes_after contents' paths_after to ∙ ap (option_map (full_node contents' paths_after to)) kept_to ∙ ap Some node_new
-          ∙ sym (get-insert_other with_new dir (more old_dir) to apart ∙ get-insert_same (nodes_of k.nodes k.contents k.paths) to (new_node next content)))
-      | inr ne' ↦
-          get-nodes_of nodes_after contents' paths_after q ∙ ap (option_map (full_node contents' paths_after q)) (kept_other q ne ne') ∙ same_node q ne ne'
-          ∙ sym (get-insert_other with_new dir (more old_dir) q ne ∙ get-insert_other (nodes_of k.nodes k.contents k.paths) to (new_node next content) q ne' ∙ get-nodes_of k.nodes k.contents k.paths q)
-    ]
-  ])
+  nodes_are = same_map nat_list_cmp_total bytes_exact _ _ (λ q. elim (bytes_or_not q dir) as (λ _. get (nodes_of
+      nodes_after contents' paths_after) q ≡ get (insert with_new dir (more old_dir)) q) [
+        | inl same ↦ subst (λ k. get (nodes_of nodes_after contents' paths_after) k ≡ get (insert with_new dir (more
+            old_dir)) k) (sym same)
+            (get-nodes_of nodes_after contents' paths_after dir ∙ ap (option_map (full_node contents' paths_after dir))
+            kept_dir ∙ ap Some node_dir ∙ sym (get-insert_same with_new dir (more old_dir)))
+        | inr ne ↦ elim (bytes_or_not q to) as (λ _. get (nodes_of nodes_after contents' paths_after) q ≡ get (insert
+            with_new dir (more old_dir)) q) [
+              | inl same ↦ subst (λ k. get (nodes_of nodes_after contents' paths_after) k ≡ get (insert with_new dir (more
+                  old_dir)) k) (sym same)
+                  (get-nodes_of nodes_after contents' paths_after to ∙ ap (option_map (full_node contents' paths_after to))
+                  kept_to ∙ ap Some node_new
+                  ∙ sym (get-insert_other with_new dir (more old_dir) to apart
+                  ∙ get-insert_same (nodes_of k.nodes k.contents k.paths) to (new_node next content)))
+              | inr ne' ↦
+                  get-nodes_of nodes_after contents' paths_after q ∙ ap (option_map (full_node contents' paths_after q))
+                  (kept_other q ne ne') ∙ same_node q ne ne'
+                  ∙ sym (get-insert_other with_new dir (more old_dir) q ne
+                  ∙ get-insert_other (nodes_of k.nodes k.contents k.paths) to (new_node next content) q ne'
+                  ∙ get-nodes_of k.nodes k.contents k.paths q)
+            ]
+      ])
 
   abbrev fuller : Tree
   fuller = with_node now to (new_node next content)
 
   in_fuller : node_at fuller dir ≡ Some old_dir
-  in_fuller = get-insert_other (nodes_of k.nodes k.contents k.paths) to (new_node next content) dir (λ e. apart (sym e)) ∙ node_at-kept k dir p is
+  in_fuller = get-insert_other (nodes_of k.nodes k.contents k.paths) to (new_node next content) dir (λ e. apart (sym
+      e)) ∙ node_at-kept k dir p is
 
   tree_after : the_tree after ≡ named fuller dir name to
-  tree_after = ap (λ (m : ByBytes Node). let t : Tree = record { root = k.root; nodes = m } in t) nodes_are ∙ sym (edited-some fuller dir more old_dir in_fuller)
+  tree_after = ap (λ (m : ByBytes Node). let t : Tree = record { root = k.root; nodes = m } in t) nodes_are
+      ∙ sym (edited-some fuller dir more old_dir in_fuller)
 
   -- the node that is made
   made_node_after : Made now dir name content to (Some (the_tree after))
@@ -203,7 +232,8 @@ module _ (limits : ServerLimits) (next bytes : ℕ) (k : Kept) (sound : IsSound 
       let same : used (the_tree after) ≡ used (named fuller dir name to) = ap used tree_after in
       let change = used-edited fuller dir more old_dir in_fuller in
       let before : used_by old_dir.content ≡ 512 * len names = ap used_by old_content in
-      let then : used_by (more old_dir).content ≡ 512 * len (insert names name to) = ap (λ c. let x : Node = record old_dir { content = c } in used_by (more x).content) old_content in
+      let then : used_by (more old_dir).content ≡ 512 * len (insert names name to) = ap (λ c. let x : Node =
+      record old_dir { content = c } in used_by (more x).content) old_content in
       let new = used-with_node now to (new_node next content) (node_at-none k to absent) in
       let size = len_names in
       omega (arith, same, change, before, then, new, size, full)
@@ -215,15 +245,17 @@ module _ (limits : ServerLimits) (next bytes : ℕ) (k : Kept) (sound : IsSound 
       (λ q x _ _ e. let s = sound.serials q x e in (s.0, omega (arith, s.1)))
 
   named_after : AreNamed nodes_after paths_after
-  named_after q x h fits at = elim (bytes_or_not (q ++ x) (dir ++ name)) as (λ _. IsSome (get nodes_after q) × IsSome (get nodes_after h)) [
-    | inl same ↦
-        let is_dir : q ≡ dir = apart_keys dir q name x dir_fits fits same in
-        let is_to : to ≡ h = (let f : Some to ≡ Some h = sym (get-insert_same k.paths (dir ++ name) to) ∙ ap (get paths_after) (sym same) ∙ at in let one : to ≡ h = cc in one) in
-        (ap is_some (ap (get nodes_after) is_dir ∙ kept_dir), ap is_some (ap (get nodes_after) (sym is_to) ∙ kept_to))
-    | inr ne ↦
-        let both = sound.named q x h fits (sym (get-insert_other k.paths (dir ++ name) to (q ++ x) ne) ∙ at) in
-        (grows q both.0, grows h both.1)
-  ]
+  named_after q x h fits at = elim (bytes_or_not (q ++ x) (dir ++ name)) as (λ _. IsSome (get nodes_after q) × IsSome
+      (get nodes_after h)) [
+        | inl same ↦
+            let is_dir : q ≡ dir = apart_keys dir q name x dir_fits fits same in
+            let is_to : to ≡ h = (let f : Some to ≡ Some h = sym (get-insert_same k.paths (dir ++ name) to)
+            ∙ ap (get paths_after) (sym same) ∙ at in let one : to ≡ h = cc in one) in
+            (ap is_some (ap (get nodes_after) is_dir ∙ kept_dir), ap is_some (ap (get nodes_after) (sym is_to) ∙ kept_to))
+        | inr ne ↦
+            let both = sound.named q x h fits (sym (get-insert_other k.paths (dir ++ name) to (q ++ x) ne) ∙ at) in
+            (grows q both.0, grows h both.1)
+      ]
 
   -- COUNTS AFTER
 
@@ -236,41 +268,51 @@ module _ (limits : ServerLimits) (next bytes : ℕ) (k : Kept) (sound : IsSound 
       omega (arith, same, change, new, none)
 
   links_other : (q : List ℕ) → q ≢ to → links (the_tree after) q ≡ links now q
-  links_other q ne = let all = links_after q in let none = ap one_if (bytes_differ to q (λ e. ne (sym e))) in omega (arith, all, none)
+  links_other q ne = let all = links_after q in let none = ap one_if (bytes_differ to q (λ e. ne (sym e))) in
+      omega (arith, all, none)
 
   no_link : ¬ (IsNamed now to)
   no_link leads =
       let t = target_found now leads.0 leads.1 to leads.2 in
       let d = kept-node_at k leads.0 t.node t.is_node in
-      let same : names_of k.paths leads.0 ≡ t.names = its_names d.0.kind (bytes_under k.contents leads.0) (names_of k.paths leads.0) t.names (ap (λ (n : Node). names_in n.content) (sym d.2) ∙ t.is_dir) in
+      let same : names_of k.paths leads.0 ≡ t.names = its_names d.0.kind (bytes_under k.contents leads.0) (names_of
+      k.paths leads.0) t.names (ap (λ (n : Node). names_in n.content) (sym d.2) ∙ t.is_dir) in
       let fits = kept_fits k.nodes next sound.serials leads.0 d.0 d.1 in
-      is_some_none (sound.named leads.0 leads.1 to fits (sym (get-names_of leads.0 fits k.paths leads.1) ∙ ap (λ m. get m leads.1) same ∙ t.leads)).1 absent
+      is_some_none (sound.named leads.0 leads.1 to fits (sym (get-names_of leads.0 fits k.paths leads.1)
+      ∙ ap (λ m. get m leads.1) same ∙ t.leads)).1 absent
 
   links_to : links (the_tree after) to ≡ 1
-  links_to = let all = links_after to in let none = links-none now to no_link in let here = ap one_if ((bytes_eq-Decides to to).1 refl) in omega (arith, all, none, here)
+  links_to = let all = links_after to in let none = links-none now to no_link in
+      let here = ap one_if ((bytes_eq-Decides to to).1 refl) in omega (arith, all, none, here)
 
   -- nodes keep their kinds
   kinds_after : (q : List ℕ) → q ≢ to → kind_at after q ≡ kind_at k q
   kinds_after q ne = elim (bytes_or_not q dir) as (λ _. kind_at after q ≡ kind_at k q) [
-    | inl same ↦ ap (option_map (λ (p : PathNode). p.kind)) (ap (get nodes_after) same ∙ kept_dir) ∙ sym (ap (option_map (λ (p : PathNode). p.kind)) (ap (get k.nodes) same ∙ is))
+    | inl same ↦ ap (option_map (λ (p : PathNode). p.kind)) (ap (get nodes_after) same ∙ kept_dir)
+        ∙ sym (ap (option_map (λ (p : PathNode). p.kind)) (ap (get k.nodes) same ∙ is))
     | inr ne' ↦ ap (option_map (λ (p : PathNode). p.kind)) (kept_other q ne' ne)
   ]
 
-  subdirs_old : (q : List ℕ) → length q ≡ 32 → subdirs (the_tree after) (names_of k.paths q) ≡ subdirs now (names_of k.paths q)
-  subdirs_old q fits = subdirs-same (the_tree after) now (names_of k.paths q) (λ x h at. same_dirs after k h (kinds_after h (λ e.
+  subdirs_old : (q : List ℕ) → length q ≡ 32 → subdirs (the_tree after) (names_of k.paths q) ≡ subdirs now (names_of
+      k.paths q)
+  subdirs_old q fits = subdirs-same (the_tree after) now (names_of k.paths q) (λ x h at. same_dirs after k h
+      (kinds_after h (λ e.
       is_some_none (sound.named q x h fits (sym (get-names_of q fits k.paths x) ∙ at)).1 (ap (get k.nodes) e ∙ absent))))
 
   subdirs_dir : subdirs (the_tree after) (insert names name to) ≡ subdirs now names + one_if (is_dir kind)
   subdirs_dir =
       let more = subdirs-insert_new (the_tree after) names name to name_new in
-      let here : one_if (is_dir_at (the_tree after) to) ≡ one_if (is_dir kind) = ap one_if (is_dir_at-kind after to ∙ ap (λ o. is_dir_kind (option_map (λ (p : PathNode). p.kind) o)) kept_to) in
+      let here : one_if (is_dir_at (the_tree after) to) ≡ one_if (is_dir kind) = ap one_if (is_dir_at-kind after to
+      ∙ ap (λ o. is_dir_kind (option_map (λ (p : PathNode). p.kind) o)) kept_to) in
       let old = subdirs_old dir dir_fits in
       omega (arith, more, here, old)
 
   counted_dir : IsCounted after dir (one_more kind p)
   counted_dir = record {
-    names = let count = (sound.counted dir p is).names in let size = len_names in let same = ap len names_dir in omega (arith, count, size, same);
-    subdirs = let count = (sound.counted dir p is).subdirs in let size = subdirs_dir in let same = ap (subdirs (the_tree after)) names_dir in omega (arith, count, size, same);
+    names = let count = (sound.counted dir p is).names in let size = len_names in let same = ap len names_dir in
+        omega (arith, count, size, same);
+    subdirs = let count = (sound.counted dir p is).subdirs in let size = subdirs_dir in
+        let same = ap (subdirs (the_tree after)) names_dir in omega (arith, count, size, same);
     links = (sound.counted dir p is).links ∙ sym (links_other dir (λ e. apart (sym e)));
   }
 
@@ -300,10 +342,12 @@ module _ (limits : ServerLimits) (next bytes : ℕ) (k : Kept) (sound : IsSound 
   len_after : len nodes_after ≡ len k.nodes + 1
   len_after =
       len-insert nat_list_cmp_total (insert k.nodes to made) dir (one_more kind p)
-      ∙ ap (λ o. cond (is_some o) (len (insert k.nodes to made)) (len (insert k.nodes to made) + 1)) (get-insert_other k.nodes to made dir (λ e. apart (sym e)) ∙ is)
+      ∙ ap (λ o. cond (is_some o) (len (insert k.nodes to made)) (len (insert k.nodes to made) + 1))
+      (get-insert_other k.nodes to made dir (λ e. apart (sym e)) ∙ is)
       ∙ len-insert nat_list_cmp_total k.nodes to made ∙ ap (λ o. cond (is_some o) (len k.nodes) (len k.nodes + 1)) absent
 
-  sound_after : used_by content ≡ length text → bytes + (512 + length text) ≤ limits.bytes → len k.nodes < limits.nodes → IsSound limits (next + 1) (bytes + (512 + length text)) after
+  sound_after : used_by content ≡ length text → bytes + (512 + length text) ≤ limits.bytes →
+      len k.nodes < limits.nodes → IsSound limits (next + 1) (bytes + (512 + length text)) after
   sound_after full room node_room = record {
     serials = serials_after;
     named = named_after;
@@ -314,11 +358,18 @@ module _ (limits : ServerLimits) (next bytes : ℕ) (k : Kept) (sound : IsSound 
   }
 
   -- the same, of what a server came to
-  module _ (handle : List ℕ) (nodes' : ByBytes PathNode) (paths' : Paths) (is_handle : handle ≡ serial_bytes next) (is_nodes : nodes' ≡ insert (insert k.nodes handle made) dir (one_more kind p))
+  module _ (handle : List ℕ) (nodes' : ByBytes PathNode) (paths' : Paths) (is_handle : handle ≡ serial_bytes next)
+      (is_nodes : nodes' ≡ insert (insert k.nodes handle made) dir (one_more kind p))
       (is_paths : paths' ≡ insert k.paths (dir ++ name) handle) where
     pub made_after : Made now dir name content handle (Some (the_tree (kept_as k.root nodes' contents' paths')))
     made_after = rw (is_nodes, is_paths, is_handle) made_node_after
 
-    pub sound_made : (next' : ℕ) → next' ≡ next + 1 → used_by content ≡ length text → bytes + (512 + length text) ≤ limits.bytes → len k.nodes < limits.nodes →
+    pub sound_made : (next' : ℕ) → next' ≡ next + 1 → used_by content ≡ length text →
+        bytes + (512 + length text) ≤ limits.bytes → len k.nodes < limits.nodes →
         IsSound limits next' (bytes + (512 + length text)) (kept_as k.root nodes' contents' paths')
-    sound_made next' is_next full room node_room = rw (is_nodes, is_paths, is_handle, is_next) (sound_after full room node_room)
+    sound_made next' is_next full room node_room = rw (
+      is_nodes,
+      is_paths,
+      is_handle,
+      is_next,
+    ) (sound_after full room node_room)

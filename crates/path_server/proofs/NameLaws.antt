@@ -28,7 +28,8 @@ module _ (dir : List ℕ) (fits : length dir ≡ 32) where
   pub starts : (name key : List ℕ) → dir ++ name ≡ key → bytes_eq (take 32 key) dir ≡ true
   starts name key e = (bytes_eq-Decides (take 32 key) dir).1 (ap (take 32) (sym e) ∙ start_of dir name fits)
 
-  pub entry_found : (name : List ℕ) (es : List (List ℕ × List ℕ)) → find (slice_cmp nat_cmp) name (entries_in dir es) ≡ find (slice_cmp nat_cmp) (dir ++ name) es
+  pub entry_found : (name : List ℕ) (es : List (List ℕ × List ℕ)) →
+      find (slice_cmp nat_cmp) name (entries_in dir es) ≡ find (slice_cmp nat_cmp) (dir ++ name) es
   entry_found name [] = refl
   entry_found name (e ∷ es) = elim (bytes_eq (take 32 e.0) dir) as (λ b. bytes_eq (take 32 e.0) dir ≡ b →
       find (slice_cmp nat_cmp) name (cond b ((drop 32 e.0, e.1) ∷ entries_in dir es) (entries_in dir es)) ≡ cond (is_eq (slice_cmp nat_cmp (dir ++ name) e.0)) (Some e.1) (find (slice_cmp nat_cmp) (dir ++ name) es)) [

@@ -54,19 +54,27 @@ module _ {A B : Type 0} (f : List ℕ → A → B) where
       ∙ ap (λ o. cond (is_some o) (len m) (len m + 1)) (get-from_entries nat_list_cmp_total (map (λ e. (e.0, f e.0 e.1)) es) e.0 ∙ find_below e.0 es (both_first _ (is_sorted (slice_cmp nat_cmp) es) h))
       ∙ ap (λ n. n + 1) (len-mapped es (both_second (below_all (slice_cmp nat_cmp) e.0 es) _ h)) ∙ add-one _
 
-  find-mapped : (es : List (List ℕ × A)) (h : List ℕ) → find (slice_cmp nat_cmp) h (map (λ e. (e.0, f e.0 e.1)) es) ≡ option_map (f h) (find (slice_cmp nat_cmp) h es)
+  find-mapped : (es : List (List ℕ × A)) (h : List ℕ) → find (slice_cmp nat_cmp) h (map (λ e. (
+    e.0,
+    f e.0 e.1,
+  )) es) ≡ option_map (f h) (find (slice_cmp nat_cmp) h es)
   find-mapped [] h = refl
   find-mapped (e ∷ es) h =
       elim (is_eq (slice_cmp nat_cmp h e.0)) as (λ b. is_eq (slice_cmp nat_cmp h e.0) ≡ b →
-      cond b (Some (f e.0 e.1)) (find (slice_cmp nat_cmp) h (map (λ e. (e.0, f e.0 e.1)) es)) ≡ option_map (f h) (cond b (Some e.1) (find (slice_cmp nat_cmp) h es))) [
+      cond b (Some (f e.0 e.1)) (find (slice_cmp nat_cmp) h (map (λ e. (
+        e.0,
+        f e.0 e.1,
+      )) es)) ≡ option_map (f h) (cond b (Some e.1) (find (slice_cmp nat_cmp) h es))) [
         | true ↦ λ t. ap (λ k. Some (f k e.1)) (sym (same-keys h e.0 t))
         | false ↦ λ _. find-mapped es h
       ] refl
 
 -- the tree has as many nodes as are kept
-pub len-nodes_of : (nodes : ByBytes PathNode) (contents : Contents) (paths : Paths) → len (nodes_of nodes contents paths) ≡ len nodes
+pub len-nodes_of : (nodes : ByBytes PathNode) (contents : Contents) (paths : Paths) →
+    len (nodes_of nodes contents paths) ≡ len nodes
 unfolding nodes_of
-len-nodes_of nodes contents paths = len-mapped (full_node contents paths) (entries nodes) (entries_sorted nodes) ∙ sym (len-entries nodes)
+len-nodes_of nodes contents paths = len-mapped (full_node contents paths) (entries nodes) (entries_sorted nodes)
+    ∙ sym (len-entries nodes)
 
 module _ {A : Type 0} where
   all_below : (x : List ℕ) (es : List (List ℕ × A)) → AllByRecursion (λ y. slice_cmp nat_cmp x y ≡ Less) (map (λ e. e.0) es) → T (below_all (slice_cmp nat_cmp) x es)
@@ -94,9 +102,12 @@ module _ {A : Type 0} where
 -- WHICH
 
 -- what the tree has under a handle
-pub get-nodes_of : (nodes : ByBytes PathNode) (contents : Contents) (paths : Paths) (h : List ℕ) → get (nodes_of nodes contents paths) h ≡ option_map (full_node contents paths h) (get nodes h)
+pub get-nodes_of : (nodes : ByBytes PathNode) (contents : Contents) (paths : Paths) (h : List ℕ) →
+    get (nodes_of nodes contents paths) h ≡ option_map (full_node contents paths h) (get nodes h)
 unfolding nodes_of
-get-nodes_of nodes contents paths h = get-from_entries nat_list_cmp_total _ h ∙ find-mapped (full_node contents paths) (entries nodes) h ∙ ap (option_map (full_node contents paths h)) (sym (get-entries nodes h))
+get-nodes_of nodes contents paths h = get-from_entries nat_list_cmp_total _ h
+    ∙ find-mapped (full_node contents paths) (entries nodes) h
+    ∙ ap (option_map (full_node contents paths h)) (sym (get-entries nodes h))
 
 abbrev has : Option Names → Bool
 has o = elim o as (λ _. Bool) [ None ↦ false | Some m ↦ true ]
@@ -115,9 +126,11 @@ module _ (k : Kept) where
   node_at-none h e = get-nodes_of k.nodes k.contents k.paths h ∙ ap (option_map (node_here h)) e
 
   -- a kept node, from one that the tree has
-  pub kept-node_at : (h : List ℕ) (n : Node) → node_at (the_tree k) h ≡ Some n → (p : PathNode) × (get k.nodes h ≡ Some p) × (n ≡ node_here h p)
+  pub kept-node_at : (h : List ℕ) (n : Node) → node_at (the_tree k) h ≡ Some n →
+      (p : PathNode) × (get k.nodes h ≡ Some p) × (n ≡ node_here h p)
   kept-node_at h n e =
-      elim (get k.nodes h) as (λ o. option_map (node_here h) o ≡ Some n → (p : PathNode) × (o ≡ Some p) × (n ≡ node_here h p)) [
+      elim (get k.nodes h) as (λ o. option_map (node_here h) o ≡ Some n →
+      (p : PathNode) × (o ≡ Some p) × (n ≡ node_here h p)) [
         | None ↦ λ no. absurd (let bad : None ≡ Some n = no in cc)
         | Some p ↦ λ is. (p, refl, (let f : Some (node_here h p) ≡ Some n = is in let same : n ≡ node_here h p = cc in same))
       ] (sym (get-nodes_of k.nodes k.contents k.paths h) ∙ e)
@@ -129,9 +142,11 @@ module _ (k : Kept) where
 
   pub is_dir_at-kind : (h : List ℕ) → is_dir_at (the_tree k) h ≡ is_dir_kind (kind_at h)
   is_dir_at-kind h =
-      elim (get k.nodes h) as (λ o. get k.nodes h ≡ o → is_dir_at (the_tree k) h ≡ is_dir_kind (option_map (λ (p : PathNode). p.kind) o)) [
+      elim (get k.nodes h) as (λ o. get k.nodes h ≡ o → is_dir_at (the_tree k) h ≡ is_dir_kind (option_map (λ (p :
+      PathNode). p.kind) o)) [
         | None ↦ λ e. ap (λ o. has (option_and_then (λ (n : Node). names_in n.content) o)) (node_at-none h e)
-        | Some p ↦ λ e. ap (λ o. has (option_and_then (λ (n : Node). names_in n.content) o)) (node_at-kept h p e) ∙ has_names p.kind (bytes_under k.contents h) (names_of k.paths h)
+        | Some p ↦ λ e. ap (λ o. has (option_and_then (λ (n : Node). names_in n.content) o)) (node_at-kept h p e)
+            ∙ has_names p.kind (bytes_under k.contents h) (names_of k.paths h)
       ] refl
 
 -- where the kinds are the same, so are the directories

@@ -108,15 +108,20 @@ insert-vec_rows es fs m k q v is_map is_key is =
 abbrev pub filled_row : List ℕ × Vec ℕ Global → List ℕ × List ℕ
 filled_row e = (e.0, e.1.items)
 
-find-filled : (es : List (List ℕ × Vec ℕ Global)) (q : List ℕ) → find (slice_cmp nat_cmp) q (map filled_row es) ≡ option_map (λ v. v.items) (lookup (λ k. is_eq (slice_cmp nat_cmp q k)) es)
+find-filled : (es : List (List ℕ × Vec ℕ Global)) (q : List ℕ) →
+    find (slice_cmp nat_cmp) q (map filled_row es) ≡ option_map (λ v. v.items) (lookup (λ k. is_eq (slice_cmp nat_cmp
+    q k)) es)
 find-filled [] q = refl
-find-filled (e ∷ es) q = elim (is_eq (slice_cmp nat_cmp q e.0)) as (λ b. cond b (Some e.1.items) (find (slice_cmp nat_cmp) q (map filled_row es)) ≡ option_map (λ v. v.items) (cond b (Some e.1) (lookup (λ k. is_eq (slice_cmp nat_cmp q k)) es))) [
-  | true ↦ refl
-  | false ↦ find-filled es q
-]
+find-filled (e ∷ es) q = elim (is_eq (slice_cmp nat_cmp q e.0)) as (λ b. cond b (Some e.1.items) (find (slice_cmp
+    nat_cmp) q (map filled_row es)) ≡ option_map (λ v. v.items) (cond b (Some e.1) (lookup (λ k. is_eq (slice_cmp
+    nat_cmp q k)) es))) [
+      | true ↦ refl
+      | false ↦ find-filled es q
+    ]
 
 -- what a node's row contains
-pub bytes-filled_rows : (es : List (List ℕ × Vec ℕ Global)) (m : FinMap (slice_cmp nat_cmp) (List ℕ)) (q : List ℕ) (found : Option (Vec ℕ Global)) → from_entries (map filled_row es) ≡ m →
+pub bytes-filled_rows : (es : List (List ℕ × Vec ℕ Global)) (m : FinMap (slice_cmp nat_cmp) (List ℕ)) (q : List ℕ)
+    (found : Option (Vec ℕ Global)) → from_entries (map filled_row es) ≡ m →
     found ≡ lookup (λ k. is_eq (slice_cmp nat_cmp q k)) es → unwrap_or (option_map (λ v. v.items) found) [] ≡ bytes_under m q
 unfolding bytes_under
 bytes-filled_rows es m q found is_map is =
@@ -124,16 +129,26 @@ bytes-filled_rows es m q found is_map is =
     ∙ ap (λ o. unwrap_or o []) (sym (find-filled es q) ∙ sym (get-from_entries nat_list_cmp_total (map filled_row es) q))
     ∙ ap (λ m. unwrap_or (get m q) []) is_map
 
-put-filled : (k : List ℕ) (v : Vec ℕ Global) (es : List (List ℕ × Vec ℕ Global)) → map filled_row (insert_entry (slice_cmp nat_cmp) es k v) ≡ put (slice_cmp nat_cmp) k v.items (map filled_row es)
+put-filled : (k : List ℕ) (v : Vec ℕ Global) (es : List (List ℕ × Vec ℕ Global)) →
+    map filled_row (insert_entry (slice_cmp nat_cmp) es k v) ≡ put (slice_cmp nat_cmp) k v.items (map filled_row es)
 put-filled k v [] = refl
-put-filled k v (e ∷ es) = elim (slice_cmp nat_cmp k e.0) as (λ o. map filled_row (match_ordering o ((k, v) ∷ e ∷ es) ((e.0, v) ∷ es) (e ∷ insert_entry (slice_cmp nat_cmp) es k v)) ≡ by_order o ((k, v.items) ∷ map filled_row (e ∷ es)) ((e.0, v.items) ∷ map filled_row es) (filled_row e ∷ put (slice_cmp nat_cmp) k v.items (map filled_row es))) [
-  | Less ↦ refl
-  | Equal ↦ refl
-  | Greater ↦ ap (λ l. filled_row e ∷ l) (put-filled k v es)
-]
+put-filled k v (e ∷ es) = elim (slice_cmp nat_cmp k e.0) as (λ o. map filled_row (match_ordering o ((
+  k,
+  v,
+) ∷ e ∷ es) ((e.0, v) ∷ es) (e ∷ insert_entry (slice_cmp nat_cmp) es k v)) ≡ by_order o ((
+  k,
+  v.items,
+) ∷ map filled_row (e ∷ es)) ((e.0, v.items) ∷ map filled_row es) (filled_row e ∷ put (slice_cmp nat_cmp)
+    k v.items (map filled_row es))) [
+      | Less ↦ refl
+      | Equal ↦ refl
+      | Greater ↦ ap (λ l. filled_row e ∷ l) (put-filled k v es)
+    ]
 
-pub insert-filled_rows : (es fs : List (List ℕ × Vec ℕ Global)) (m : FinMap (slice_cmp nat_cmp) (List ℕ)) (k : List ℕ) (v : Vec ℕ Global) (w : List ℕ) → from_entries (map filled_row es) ≡ m → v.items ≡ w →
+pub insert-filled_rows : (es fs : List (List ℕ × Vec ℕ Global)) (m : FinMap (slice_cmp nat_cmp) (List ℕ)) (k : List
+    ℕ) (v : Vec ℕ Global) (w : List ℕ) → from_entries (map filled_row es) ≡ m → v.items ≡ w →
     fs ≡ insert_entry (slice_cmp nat_cmp) es k v → from_entries (map filled_row fs) ≡ insert m k w
 insert-filled_rows es fs m k v w is_map is_bytes is =
-    ap (λ l. from_entries (map filled_row l)) is ∙ ap from_entries (put-filled k v es) ∙ insert-put (map filled_row es) k v.items
+    ap (λ l. from_entries (map filled_row l)) is ∙ ap from_entries (put-filled k v es)
+    ∙ insert-put (map filled_row es) k v.items
     ∙ ap (λ m. insert m k v.items) is_map ∙ ap (insert m k) is_bytes

@@ -21,13 +21,15 @@ node_used : (t : Tree) (h : List ℕ) (n : Node) → node_at t h ≡ Some n → 
 unfolding used
 node_used t h n is = share (λ (n : Node). used_by n.content) t.nodes h n is
 
-module _ (limits : ServerLimits) (next bytes : ℕ) (k : Kept) (sound : IsSound limits next bytes k) (h : List ℕ) (p : PathNode) (is : get k.nodes h ≡ Some p) where
+module _ (limits : ServerLimits) (next bytes : ℕ) (k : Kept) (sound : IsSound limits next bytes k) (h : List ℕ) (p :
+    PathNode) (is : get k.nodes h ≡ Some p) where
   pub fits : length h ≡ 32
   fits = kept_fits k.nodes next sound.serials h p is
 
   -- what a node contains is among the bytes that are counted
   pub few_used : used_by (node_here k h p).content ≤ bytes
-  few_used = let share = node_used (the_tree k) h (node_here k h p) (node_at-kept k h p is) in let all = sound.bytes_used in omega (arith, share, all)
+  few_used = let share = node_used (the_tree k) h (node_here k h p) (node_at-kept k h p is) in
+      let all = sound.bytes_used in omega (arith, share, all)
 
   -- names cost bytes
   pub few_names : p.kind ≡ Dir → limits.bytes ≤ 1073741824 → p.names + 1 < 2 ^ 32
@@ -69,15 +71,18 @@ module _ (limits : ServerLimits) (next bytes : ℕ) (k : Kept) (sound : IsSound 
       ∙ ap text_in (link_content p.kind (bytes_under k.contents h) (names_of k.paths h) is_link)
 
   pub names_at-is : p.kind ≡ Dir → names_at (the_tree k) h ≡ Some (names_of k.paths h)
-  names_at-is is_dir = names_at-node (the_tree k) h (node_here k h p) (node_at-kept k h p is) ∙ ap names_in (dir_content p.kind (bytes_under k.contents h) (names_of k.paths h) is_dir)
+  names_at-is is_dir = names_at-node (the_tree k) h (node_here k h p) (node_at-kept k h p is)
+      ∙ ap names_in (dir_content p.kind (bytes_under k.contents h) (names_of k.paths h) is_dir)
 
   pub target_is : p.kind ≡ Dir → (name : List ℕ) → target (the_tree k) h name ≡ get k.paths (h ++ name)
   target_is is_dir name =
-      target-node (the_tree k) h (node_here k h p) (names_of k.paths h) name (node_at-kept k h p is) (ap names_in (dir_content p.kind (bytes_under k.contents h) (names_of k.paths h) is_dir))
+      target-node (the_tree k) h (node_here k h p) (names_of k.paths h) name (node_at-kept k h p is) (ap names_in
+      (dir_content p.kind (bytes_under k.contents h) (names_of k.paths h) is_dir))
       ∙ get-names_of h fits k.paths name
 
 -- a tree that is held is within the limits
-pub within : (held : Bool) (limits : ServerLimits) (next bytes : ℕ) (k : Kept) → (held ≡ true → IsSound limits next bytes k) →
+pub within : (held : Bool) (limits : ServerLimits) (next bytes : ℕ) (k : Kept) → (held ≡ true →
+    IsSound limits next bytes k) →
     IfSome (tree_of held k) (λ (t : Tree). (len t.nodes ≤ max 1 limits.nodes) × (used t ≤ limits.bytes))
 within true limits next bytes k sound =
     let s = sound refl in

@@ -27,4 +27,5 @@ pub record IsAdded (kind : Kind) (h bytes : List ℕ) (old new : Contents) : Typ
 
 -- bytes of another size, with a piece at an offset
 abbrev pub rewritten : ℕ → ℕ → List ℕ → List ℕ → List ℕ
-rewritten size offset piece bytes = take offset (resized size bytes) ++ piece ++ drop (offset + length piece) (resized size bytes)
+rewritten size offset piece bytes =
+    take offset (resized size bytes) ++ piece ++ drop (offset + length piece) (resized size bytes)

@@ -13,7 +13,8 @@ is_dir Link = false
 
 -- a node as it is made, to which so many names lead
 abbrev pub made_node : Kind → ℕ → ℕ → PathNode
-made_node kind number links = record { number = number; kind = kind; mode = 0; uid = 0; gid = 0; names = 0; subdirs = 0; links = links }
+made_node kind number links =
+    record { number = number; kind = kind; mode = 0; uid = 0; gid = 0; names = 0; subdirs = 0; links = links }
 
 -- a directory with one name more, which leads to a node of this kind
 abbrev pub one_more : Kind → PathNode → PathNode

@@ -9,11 +9,13 @@ use Rattle.path_server.specs.declared.node.PathNode.{PathNode}
 
 -- each handle is that of its node's number, which is below the next
 abbrev pub AreSerials : ByBytes PathNode → ℕ → Type 0
-AreSerials nodes next = (h : List ℕ) (p : PathNode) → get nodes h ≡ Some p → (h ≡ serial_bytes p.number) × (p.number < next)
+AreSerials nodes next = (h : List ℕ) (p : PathNode) → get nodes h ≡ Some p →
+    (h ≡ serial_bytes p.number) × (p.number < next)
 
 -- names are of nodes, and lead to nodes
 abbrev pub AreNamed : ByBytes PathNode → Paths → Type 0
-AreNamed nodes paths = (dir name h : List ℕ) → length dir ≡ 32 → get paths (dir ++ name) ≡ Some h → IsSome (get nodes dir) × IsSome (get nodes h)
+AreNamed nodes paths = (dir name h : List ℕ) → length dir ≡ 32 → get paths (dir ++ name) ≡ Some h →
+    IsSome (get nodes dir) × IsSome (get nodes h)
 
 -- a node counts its names, those of them that lead to directories, and the names that lead to it
 pub record IsCounted (k : Kept) (h : List ℕ) (p : PathNode) : Type 0 where

@@ -34,7 +34,8 @@ pub struct PathServer {
     contents: PathContents,
     names: PathNames,
     ghost limited: { limits.bytes ≤ 1073741824 },
-    ghost sound: { held ≡ true → IsSound limits next bytes (kept_as root (from_entries nodes.entries) contents names) },
+    ghost sound: { held ≡ true
+        → IsSound limits next bytes (kept_as root (from_entries nodes.entries) contents names) },
 }
 
 impl PathServer {
@@ -125,8 +126,8 @@ impl PathServer {
         requires nodes { len (kept_by self.old).nodes < self.old.limits.nodes }
         requires bytes { used_by (content_of kind bytes.now empty) ≡ length bytes.now }
         requires room { self.old.bytes + (512 + length bytes.now) ≤ self.old.limits.bytes }
-        ensures ok { IfOk result (λ h.
-            Made (the_tree (kept_by self.old)) dir.now name.now (content_of kind bytes.now empty) h (state_of self.new).tree) }
+        ensures ok { IfOk result (λ h. Made (the_tree (kept_by self.old)) dir.now name.now
+            (content_of kind bytes.now empty) h (state_of self.new).tree) }
         ensures err { OnErr result (self.new.held ≡ false) }
         ensures limits { self.new.limits ≡ self.old.limits }
     {
@@ -163,7 +164,8 @@ impl PathServer {
         requires name { is_name name.now ≡ true }
         requires bytes { used_by (content_of kind bytes.now empty) ≡ length bytes.now }
         requires few { length bytes.now ≤ 1024 }
-        ensures { Make (content_of kind bytes.now empty) (length bytes.now) (state_of self.old) dir.now name.now result (state_of self.new) }
+        ensures { Make (content_of kind bytes.now empty) (length bytes.now)
+            (state_of self.old) dir.now name.now result (state_of self.new) }
     {
         let kept = self.find_dir(dir)?;
         if self.names.get(dir, name).is_some() {
@@ -190,7 +192,8 @@ impl PathServer {
         requires held { self.old.held ≡ true }
         requires file { IsSomeAnd (get (kept_by self.old).nodes file.now) (λ p. p.kind ≡ File) }
         requires end { offset + length piece.now ≤ size }
-        requires room { (self.old.bytes - length (bytes_under self.old.contents file.now)) + size ≤ self.old.limits.bytes }
+        requires room { (self.old.bytes - length (bytes_under self.old.contents file.now)) + size
+            ≤ self.old.limits.bytes }
         ensures ok { OnOk result ((state_of self.new).tree
             ≡ Some (edited (the_tree (kept_by self.old)) file.now (with_bytes (rewritten size offset piece.now)))) }
         ensures err { OnErr result (self.new.held ≡ false) }

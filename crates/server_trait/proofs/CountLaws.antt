@@ -11,12 +11,14 @@ use Rattle.server_trait.proofs.TreeLaws.{edited-some}
 -- SUMS
 
 module _ {K X : Type 0} (f g : X → ℕ) where
-  sum_both : (es : List (K × X)) → sum_values f es + sum_values (λ x. g x - f x) es ≡ sum_values g es + sum_values (λ x. f x - g x) es
+  sum_both : (es : List (K × X)) → sum_values f es + sum_values (λ x. g x - f x) es ≡ sum_values g es + sum_values (λ
+      x. f x - g x) es
   sum_both [] = refl
   sum_both (e ∷ es) = let rest = sum_both es in omega (arith, rest)
 
 -- two weights that agree at each value
-pub total-same : {X : Type 0} (f g : X → ℕ) (m : ByBytes X) → ((k : List ℕ) (x : X) → get m k ≡ Some x → f x ≡ g x) → total f m ≡ total g m
+pub total-same : {X : Type 0} (f g : X → ℕ) (m : ByBytes X) → ((k : List ℕ) (x : X) → get m k ≡ Some x → f x ≡ g x) →
+    total f m ≡ total g m
 unfolding total
 total-same f g m same =
     let both = sum_both f g (entries m) in
@@ -37,7 +39,8 @@ sum_most test (e ∷ es) = let rest = sum_most test es in let here = one_most (t
 abbrev leading : List ℕ → Node → ℕ
 leading q n = names_to q n.content
 
-pub links-with_node : (t : Tree) (h : List ℕ) (n : Node) (q : List ℕ) → node_at t h ≡ None → links (with_node t h n) q ≡ links t q + names_to q n.content
+pub links-with_node : (t : Tree) (h : List ℕ) (n : Node) (q : List ℕ) → node_at t h ≡ None →
+    links (with_node t h n) q ≡ links t q + names_to q n.content
 unfolding links
 links-with_node t h n q none = let e = total-insert_new nat_list_cmp_total (leading q) t.nodes h n none in omega (arith, e)
 
@@ -46,11 +49,13 @@ pub links-edited : (t : Tree) (h : List ℕ) (f : Node → Node) (n : Node) (q :
 unfolding links
 links-edited t h f n q is =
     let e = total-insert_old nat_list_cmp_total (leading q) t.nodes h (f n) n is in
-    let same : total (leading q) (edited t h f).nodes ≡ total (leading q) (insert t.nodes h (f n)) = ap (λ (t : Tree). total (leading q) t.nodes) (edited-some t h f n is) in
+    let same : total (leading q) (edited t h f).nodes ≡ total (leading q) (insert t.nodes h (f n)) =
+    ap (λ (t : Tree). total (leading q) t.nodes) (edited-some t h f n is) in
     omega (arith, e, same)
 
 -- a directory's new name counts where it leads
-pub links-named : (t : Tree) (dir name h : List ℕ) (n : Node) (m : Names) (q : List ℕ) → node_at t dir ≡ Some n → n.content ≡ NamesOf m → get m name ≡ None →
+pub links-named : (t : Tree) (dir name h : List ℕ) (n : Node) (m : Names) (q : List ℕ) → node_at t dir ≡ Some n →
+    n.content ≡ NamesOf m → get m name ≡ None →
     links (named t dir name h) q ≡ links t q + one_if (bytes_eq h q)
 links-named t dir name h n m q is has none =
     let e = links-edited t dir (with_names (λ m. insert m name h)) n q is in
@@ -62,11 +67,14 @@ links-named t dir name h n m q is has none =
 
 -- SUBDIRECTORIES
 
-pub subdirs-same : (t u : Tree) (m : Names) → ((name h : List ℕ) → get m name ≡ Some h → is_dir_at t h ≡ is_dir_at u h) → subdirs t m ≡ subdirs u m
+pub subdirs-same : (t u : Tree) (m : Names) → ((name h : List ℕ) → get m name ≡ Some h →
+    is_dir_at t h ≡ is_dir_at u h) → subdirs t m ≡ subdirs u m
 unfolding subdirs
-subdirs-same t u m same = total-same (λ h. one_if (is_dir_at t h)) (λ h. one_if (is_dir_at u h)) m (λ name h is. ap one_if (same name h is))
+subdirs-same t u m same = total-same (λ h. one_if (is_dir_at t h)) (λ h. one_if (is_dir_at u h)) m (λ name h is. ap
+    one_if (same name h is))
 
-pub subdirs-insert_new : (t : Tree) (m : Names) (name h : List ℕ) → get m name ≡ None → subdirs t (insert m name h) ≡ one_if (is_dir_at t h) + subdirs t m
+pub subdirs-insert_new : (t : Tree) (m : Names) (name h : List ℕ) → get m name ≡ None →
+    subdirs t (insert m name h) ≡ one_if (is_dir_at t h) + subdirs t m
 unfolding subdirs
 subdirs-insert_new t m name h none = total-insert_new nat_list_cmp_total (λ x. one_if (is_dir_at t x)) m name h none
 

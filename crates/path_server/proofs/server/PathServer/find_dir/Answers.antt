@@ -14,8 +14,10 @@ returns-in-Some c = (
 )
 
 pub returns-in-Some-2 : goal.returns-in-Some-2
-returns-in-Some-2 c = is_some_and (λ (p : PathNode). p.kind ≢ Dir) (get-rows c.args.self.now.nodes.entries c.args.dir.now ∙ sym c.get.ensures.value ∙ sym c.copied.ensures ∙ c.in-Some.is)
+returns-in-Some-2 c = is_some_and (λ (p : PathNode). p.kind ≢ Dir) (get-rows c.args.self.now.nodes.entries
+    c.args.dir.now ∙ sym c.get.ensures.value ∙ sym c.copied.ensures ∙ c.in-Some.is)
     (same_false the_type _ _ (sym c.if-eq.ensures))
 
 pub returns-in-None : goal.returns-in-None
-returns-in-None c = get-rows c.args.self.now.nodes.entries c.args.dir.now ∙ sym c.get.ensures.value ∙ sym c.copied.ensures ∙ c.in-None.is
+returns-in-None c = get-rows c.args.self.now.nodes.entries c.args.dir.now ∙ sym c.get.ensures.value
+    ∙ sym c.copied.ensures ∙ c.in-None.is

@@ -10,6 +10,8 @@ overflow_cast-result c =
     let most = (s.sound c.requires.held).bytes_most in
     let limited = s.limited in
     elim c.in-File.is [
-      | inl is ↦ let few = few_bytes s.limits s.next s.bytes (kept_by s) (s.sound c.requires.held) c.args.node.now c.args.kept c.requires.kept is in omega (arith, same, most, limited, few)
-      | inr is ↦ let few = short_text s.limits s.next s.bytes (kept_by s) (s.sound c.requires.held) c.args.node.now c.args.kept c.requires.kept is in omega (arith, same, most, limited, few)
+      | inl is ↦ let few = few_bytes s.limits s.next s.bytes (kept_by s) (s.sound c.requires.held) c.args.node.now
+          c.args.kept c.requires.kept is in omega (arith, same, most, limited, few)
+      | inr is ↦ let few = short_text s.limits s.next s.bytes (kept_by s) (s.sound c.requires.held) c.args.node.now
+          c.args.kept c.requires.kept is in omega (arith, same, most, limited, few)
     ]

@@ -11,8 +11,10 @@ invariant_of-self-2 c =
     let root = c.handle_of-self.result in
     record {
       limited = s.limited;
-      sound = λ _. sound_started s.next root (from_entries c.insert.new.self.entries) c.new-2.result c.new.result c.handle_of-self.ensures
-          (insert-first c.clear.new.self.entries c.insert.new.self.entries root c.new-root.result (made_node Dir s.next 0) c.clear.ensures.empty c.new-root.ensures c.in-Ok.ensures.entries)
+      sound = λ _. sound_started s.next root (from_entries c.insert.new.self.entries) c.new-2.result c.new.result
+          c.handle_of-self.ensures
+          (insert-first c.clear.new.self.entries c.insert.new.self.entries root c.new-root.result (made_node Dir
+          s.next 0) c.clear.ensures.empty c.new-root.ensures c.in-Ok.ensures.entries)
           c.new.ensures s.limits c.in-Some.next c.in-Some.ensures.1;
     }
 
@@ -21,5 +23,6 @@ returns-clause-ok c =
     let s = c.args.self.now in
     let root = c.handle_of-self.result in
     fresh_after s.next root (from_entries c.insert.new.self.entries) c.new-2.result c.new.result c.handle_of-self.ensures
-    (insert-first c.clear.new.self.entries c.insert.new.self.entries root c.new-root.result (made_node Dir s.next 0) c.clear.ensures.empty c.new-root.ensures c.in-Ok.ensures.entries)
+    (insert-first c.clear.new.self.entries c.insert.new.self.entries root c.new-root.result (made_node Dir s.next 0)
+    c.clear.ensures.empty c.new-root.ensures c.in-Ok.ensures.entries)
     c.new.ensures

@@ -10,7 +10,9 @@ use Rattle.path_server.proofs.server.PathServerFileServer.set_attr.Goals as goal
 pub returns-in_default : goal.returns-in_default
 returns-in_default c =
     let s = c.args.self.now in
-    set_attr-stale s.held s.limits s.next s.bytes (kept_by s) s.sound c.args.node.now c.args.mode c.args.uid c.args.gid (get-rows s.nodes.entries c.args.node.now ∙ sym c.get.ensures.value ∙ sym c.copied.ensures ∙ c.in_default.is)
+    set_attr-stale s.held s.limits s.next s.bytes (kept_by s) s.sound c.args.node.now c.args.mode c.args.uid
+    c.args.gid (get-rows s.nodes.entries c.args.node.now ∙ sym c.get.ensures.value ∙ sym c.copied.ensures
+    ∙ c.in_default.is)
 
 pub invariant_of-self : goal.invariant_of-self
 invariant_of-self c =
@@ -19,7 +21,8 @@ invariant_of-self c =
     (cannot_fail c.insert.result _ _ c.insert.ensures.entries c.insert.ensures.absent (some_none (sym c.get.ensures.value ∙ sym c.copied.ensures ∙ c.in-Some.is))) in
     record {
       limited = s.limited;
-      sound = λ there. rw put (sound_set s.limits s.next s.bytes (kept_by s) c.args.node.now c.in-Some.kept c.args.mode c.args.uid c.args.gid
+      sound = λ there. rw put (sound_set s.limits s.next s.bytes (kept_by s) c.args.node.now c.in-Some.kept
+          c.args.mode c.args.uid c.args.gid
           (get-rows s.nodes.entries c.args.node.now ∙ sym c.get.ensures.value ∙ sym c.copied.ensures ∙ c.in-Some.is) (s.sound there));
     }
 
