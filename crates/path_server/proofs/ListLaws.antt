@@ -104,6 +104,9 @@ module _ (dir : List ℕ) (fits : length dir ≡ 32) where
   pub name_is : (key k name : List ℕ) → k ≡ key → name ≡ drop (length dir) k → name ≡ drop 32 key
   name_is key k name is cut = cut ∙ ap (λ n. drop n k) fits ∙ ap (drop 32) is
 
+  abbrev cut : Row → List ℕ × List ℕ
+  cut e = (drop 32 e.0.items, e.1)
+
   abbrev pub named : List Row → List (List ℕ × List ℕ)
   named es = entries_in dir (map row es)
 
@@ -113,10 +116,7 @@ module _ (dir : List ℕ) (fits : length dir ≡ 32) where
   names_after name k [] is all = tt
   names_after name k (e ∷ es) is all =
       elim (bytes_eq (take 32 e.0.items) dir) as (λ b. bytes_eq (take 32 e.0.items) dir ≡ b →
-      AllByRecursion (λ y. slice_cmp nat_cmp name y ≡ Less) (map (λ e. e.0) (cond b ((
-        drop 32 e.0.items,
-        e.1,
-      ) ∷ named es) (named es)))) [
+      AllByRecursion (λ y. slice_cmp nat_cmp name y ≡ Less) (map (λ e. e.0) (cond b (cut e ∷ named es) (named es)))) [
         | true ↦ λ t. (
           sym (ap (λ l. slice_cmp nat_cmp l e.0.items) is ∙ ap (slice_cmp nat_cmp (dir ++ name)) (whole dir fits
               e.0.items t) ∙ cmp_after dir name (drop 32 e.0.items)) ∙ all.0,
@@ -132,7 +132,7 @@ module _ (dir : List ℕ) (fits : length dir ≡ 32) where
   names_ascend [] sorted = tt
   names_ascend (e ∷ es) sorted =
       elim (bytes_eq (take 32 e.0.items) dir) as (λ b. bytes_eq (take 32 e.0.items) dir ≡ b →
-      IsStrictlySortedBy (slice_cmp nat_cmp) (map (λ e. e.0) (cond b ((drop 32 e.0.items, e.1) ∷ named es) (named es)))) [
+      IsStrictlySortedBy (slice_cmp nat_cmp) (map (λ e. e.0) (cond b (cut e ∷ named es) (named es)))) [
         | true ↦ λ t. (
           names_after (drop 32 e.0.items) e.0 es (whole dir fits e.0.items t) sorted.0,
           names_ascend es sorted.1,
@@ -148,12 +148,9 @@ module _ (dir : List ℕ) (fits : length dir ≡ 32) where
       elim (is_le (vec_cmp first e.0)) as (λ b. is_le (vec_cmp first e.0) ≡ b →
       named (cond (b && true) (e ∷ filter (λ e. is_le (vec_cmp first e.0) && true) es) (filter (λ e. is_le
       (vec_cmp first e.0) && true) es)) ≡ named (e ∷ es)) [
-        | true ↦ λ _. ap (λ l. cond (bytes_eq (take 32 e.0.items) dir) ((
-          drop 32 e.0.items,
-          e.1,
-        ) ∷ l) l) (named_from first es is)
+        | true ↦ λ _. ap (λ l. cond (bytes_eq (take 32 e.0.items) dir) (cut e ∷ l) l) (named_from first es is)
         | false ↦ λ f. named_from first es is
-            ∙ ap (λ b. cond b ((drop 32 e.0.items, e.1) ∷ named es) (named es)) (sym (not_here f))
+            ∙ ap (λ b. cond b (cut e ∷ named es) (named es)) (sym (not_here f))
       ] refl
     where
       not_here : is_le (vec_cmp first e.0) ≡ false → bytes_eq (take 32 e.0.items) dir ≡ false
@@ -174,7 +171,7 @@ module _ (dir : List ℕ) (fits : length dir ≡ 32) where
   named_none k [] le f all = refl
   named_none k (e ∷ es) le f all =
       elim (bytes_eq (take 32 e.0.items) dir) as (λ b. bytes_eq (take 32 e.0.items) dir ≡ b →
-      cond b ((drop 32 e.0.items, e.1) ∷ named es) (named es) ≡ []) [
+      cond b (cut e ∷ named es) (named es) ≡ []) [
         | true ↦ λ t. absurd (
             let lt : slice_cmp nat_cmp k.items (dir ++ drop 32 e.0.items) ≡ Less =
             ap (slice_cmp nat_cmp k.items) (sym (whole dir fits e.0.items t)) ∙ all.0 in
@@ -202,7 +199,7 @@ module _ (dir : List ℕ) (fits : length dir ≡ 32) where
             ∙ append_assoc (map pair rows) (pair r ∷ []) (named left)
             ∙ ap (λ p. map pair rows ++ p ∷ named left) (ap (λ n. (n, r.handle)) name
             ∙ ap (λ h. (drop 32 e.0.items, h)) handle)
-            ∙ ap (λ b. map pair rows ++ cond b ((drop 32 e.0.items, e.1) ∷ named left) (named left)) (sym begins)
+            ∙ ap (λ b. map pair rows ++ cond b (cut e ∷ named left) (named left)) (sym begins)
             ∙ ap (λ l. map pair rows ++ named l) (sym is) ∙ w.total;
         sorted = sorted.1;
         from = from.1;
@@ -220,7 +217,7 @@ module _ (dir : List ℕ) (fits : length dir ≡ 32) where
       subst (λ l. IsStrictlySortedBy vec_cmp (map (λ e. e.0) l)) is w.sorted in
       let from : AllByRecursion (λ e. is_le (slice_cmp nat_cmp dir e.0.items) ≡ true) (e ∷ left) =
       subst (AllByRecursion (λ e. is_le (slice_cmp nat_cmp dir e.0.items) ≡ true)) is w.from in
-      ap named is ∙ ap (λ b. cond b ((drop 32 e.0.items, e.1) ∷ named left) (named left)) begins
+      ap named is ∙ ap (λ b. cond b (cut e ∷ named left) (named left)) begins
       ∙ named_none e.0 left from.0 begins sorted.0
 
   -- a walk starts at the rows from the handle on, which keep the order
