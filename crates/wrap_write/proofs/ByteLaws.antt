@@ -1,5 +1,5 @@
 -- Bytes that are cut, filled and written over, piece after piece.
-use Rattle.std.proofs.Common.{◌≡◌, inl, inr, ℕ, zero, ◌+◌, ◌-◌, ◌≤◌, ◌<◌, max, arith, List, [], ◌++◌, length, take, drop, replicate, refl, sym, ap, ◌∙◌, add-zero, append_assoc, length-append, length-take, length-drop}
+use Rattle.std.proofs.Common.{◌≡◌, inl, inr, ℕ, zero, ◌+◌, ◌-◌, ◌≤◌, max, arith, List, [], ◌++◌, length, take, drop, replicate, sym, ap, ◌∙◌, add-zero, append_assoc, length-append, length-take, length-drop}
 use Rattle.std.proofs.lemmas.Bool.{cases_lt}
 use Rattle.std.proofs.lemmas.List.{append-nil, length-replicate, length-take-le, take-append-drop}
 use Rattle.std.proofs.lemmas.Slice.{drop-append-drop}

@@ -1,5 +1,5 @@
 -- One node that is changed, and changed again.
-use Rattle.std.proofs.Common.{◌≡◌, inl, inr, ℕ, ◌+◌, ◌≤◌, max, length, arith, List, Option, Some, refl, sym, ap, ◌∙◌, subst}
+use Rattle.std.proofs.Common.{◌≡◌, inl, inr, ℕ, ◌+◌, ◌≤◌, length, arith, List, Some, refl, sym, ap, ◌∙◌, subst}
 use Rattle.std.specs.FinMap.{get, insert, len}
 use Rattle.std.specs.Cmp.Lexicographic.{nat_list_cmp_total}
 use Rattle.server_trait.specs.Tree.{Tree, Server, Node, ByBytes, Content, BytesOf, TextOf, NamesOf, node_at, bytes_in, bytes_at, used_by, used, edited, with_node, with_bytes}

@@ -1,38 +1,31 @@
 -- A server that stands for an array has room for what the array has room for.
-use Rattle.std.proofs.Common.{◌≡◌, inl, inr, ℕ, ◌+◌, ◌-◌, ◌≤◌, max, arith, List, Bool, true, false, length, set, slice_get, slice_set, Option, Some, None, IsSome, is_some, refl, sym, ap, ◌∙◌, subst}
-use Rattle.std.specs.Prelude.{◌&&◌, ◌==◌, nat_lt, if◌then◌else◌, unwrap_or}
+use Rattle.std.proofs.Common.{◌≡◌, inl, inr, ℕ, ◌+◌, ◌-◌, ◌≤◌, max, arith, List, Bool, true, false, length, Option, Some, None, IsSome, is_some, sym, ap, ◌∙◌}
+use Rattle.std.specs.Prelude.{◌&&◌, ◌==◌, nat_lt, if◌then◌else◌}
 use Rattle.std.proofs.lemmas.Bool.{cases_Bool, cond-true, cond-false, ltb-false}
 use Rattle.std.proofs.lemmas.Bool.Decides.{nat_tests}
 use Rattle.nfs2_types.specs.declared.Limits.{Limits}
-use Rattle.nfs2_types.specs.declared.Time.{Time}
-use Rattle.nfs2_types.specs.declared.Sattr.{Sattr}
-use Rattle.nfs2_types.specs.Call.{Call, set_attr, write}
-use Rattle.server_trait.specs.Tree.{Tree, Server, Node, node_at, bytes_in, bytes_at, edited}
-use Rattle.server_trait.specs.Tree as tree
+use Rattle.server_trait.specs.Tree.{Tree, Server, Node, node_at, bytes_in, bytes_at}
 use Rattle.server_trait.proofs.TreeLaws.{is_some_and, and_then}
 use Rattle.server_trait.specs.declared.bench.ConfEntry.{ConfEntry}
 use Rattle.server_trait.specs.declared.bench.ConfTable.{ConfTable}
 use Rattle.abs_model.specs.declared.entry.Entry.{Entry}
-use Rattle.abs_model.specs.Objects.{is_null, is_file, is_dir, is_link, bytes_of, written}
+use Rattle.abs_model.specs.Objects.{is_null, is_file, is_link, bytes_of}
 use Rattle.abs_model.specs.Array.{entry_at, used}
-use Rattle.abs_model.specs.Machine.{file_limit, no_room}
-use Rattle.abs_model.specs.Machine as machine
+use Rattle.abs_model.specs.Machine.{file_limit}
 use Rattle.abs_model.specs.Valid.{most_bytes}
-use Rattle.abs_model.proofs.Facts.{AllFalse, none_holds, file_is}
-use Rattle.conf_map.specs.Stands.{handle_at, Stands, StandsValid, HasRoom}
+use Rattle.abs_model.proofs.Facts.{AllFalse, file_is}
+use Rattle.conf_map.specs.Stands.{StandsValid, HasRoom}
 use Rattle.conf_map.specs.Moves.{IsAt}
-use Rattle.conf_map.specs.Tables.{touched}
 use Rattle.conf_map.proofs.Agrees.{used_agrees, nodes_few}
 use Rattle.conf_map.proofs.ArrayFacts.{fits_at}
 use Rattle.conf_map.proofs.LiveRows.{is_live, same_content}
-use Rattle.conf_map.proofs.ObjectChanges.{at_index, stands_alike}
+use Rattle.conf_map.proofs.ObjectChanges.{at_index}
 use Rattle.wrap_write.specs.declared.target.Target.{Target}
 use Rattle.wrap_write.specs.Puts.{CanHold, size_after}
-use Rattle.wrap_write.specs.Settings.{CanSize, node_set, row_set}
-use Rattle.wrap_write.specs.Targets.{write_tests, size_tests, IsTarget, IsCall}
-use Rattle.wrap_write.proofs.Alike.{file_parts, write_alike, entry_set, set_alike}
+use Rattle.wrap_write.specs.Settings.{CanSize}
+use Rattle.wrap_write.specs.Targets.{size_tests, IsTarget}
+use Rattle.wrap_write.proofs.Alike.{file_parts}
 use Rattle.wrap_write.proofs.Edits.{used_more}
-use Rattle.wrap_write.proofs.TargetFacts.{write_refusals, set_refusals}
 
 -- SIZES
 

@@ -1,9 +1,8 @@
 -- A node that gets a size, and then a mode and owners.
-use Rattle.std.proofs.Common.{◌≡◌, ℕ, List, Option, Some, None, IsSome, IsSomeAnd, is_some, refl, sym, ap, ◌∙◌, subst}
+use Rattle.std.proofs.Common.{◌≡◌, ℕ, List, Option, Some, None, IsSome, IsSomeAnd, is_some, sym, ap, ◌∙◌}
 use Rattle.server_trait.specs.Tree.{Tree, Server, Node, node_at, edited, with_attr}
 use Rattle.server_trait.proofs.SoftLaws.{some_of}
 use Rattle.server_trait.proofs.TreeLaws.{some_and, is_some_and, some_same, node_at-edited_same}
-use Rattle.wrap_write.specs.Puts.{CanHold}
 use Rattle.wrap_write.specs.Settings.{CanSize, node_sized}
 use Rattle.wrap_write.proofs.Edits.{file_at, edited_same, edited_twice}
 

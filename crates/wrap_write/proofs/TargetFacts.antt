@@ -1,18 +1,17 @@
 -- What a call finds: its object, or its first refusal.
-use Rattle.std.proofs.Common.{◌≡◌, ℕ, List, true, false, Option, Some, None, Result, Ok, Err, length, refl, sym, ap, ◌∙◌}
+use Rattle.std.proofs.Common.{◌≡◌, ℕ, List, true, false, Option, Some, None, length, sym, ap, ◌∙◌}
 use Rattle.std.specs.Prelude.{is_none, if◌then◌else◌}
 use Rattle.std.specs.Option.{option_map}
 use Rattle.nfs2_types.specs.declared.Limits.{Limits}
-use Rattle.nfs2_types.specs.declared.Stat.{Stat}
 use Rattle.nfs2_types.specs.declared.Sattr.{Sattr}
 use Rattle.nfs2_types.specs.declared.stat.TheConstants.{STALE}
-use Rattle.nfs2_types.specs.Call.{Call, set_attr, write}
+use Rattle.nfs2_types.specs.Call.{set_attr, write}
 use Rattle.server_trait.specs.Tree.{Tree}
 use Rattle.server_trait.specs.declared.server.NodeAttr.{NodeAttr}
 use Rattle.server_trait.specs.declared.bench.ConfEntry.{ConfEntry}
 use Rattle.server_trait.specs.declared.bench.ConfTable.{ConfTable}
 use Rattle.abs_model.specs.declared.entry.Entry.{Entry}
-use Rattle.abs_model.specs.Array.{entry_at, at, live}
+use Rattle.abs_model.specs.Array.{entry_at, at}
 use Rattle.abs_model.specs.Machine.{first_of, refusals, is_stale}
 use Rattle.abs_model.proofs.Named.{at-live}
 use Rattle.conf_map.specs.Stands.{StandsValid, StandValid, AreWithin}
@@ -22,7 +21,7 @@ use Rattle.conf_map.specs.declared.table.Located.{Located}
 use Rattle.conf_map.proofs.Seen.{live_agrees, located_live}
 use Rattle.conf_map.proofs.Shows.{stand_valid}
 use Rattle.wrap_write.specs.declared.target.Target.{Target}
-use Rattle.wrap_write.specs.Targets.{IsTarget, TargetFound, IsCall, write_tests, size_tests}
+use Rattle.wrap_write.specs.Targets.{IsTarget, write_tests, size_tests}
 
 -- OBJECTS
 

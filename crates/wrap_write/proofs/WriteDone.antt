@@ -1,37 +1,26 @@
 -- WRITE: the server can put the bytes, and then server and table stand for the array with the entry written.
-use Rattle.std.proofs.Common.{◌≡◌, inl, inr, ℕ, ◌+◌, ◌-◌, ◌≤◌, max, arith, List, [], ◌∷◌, ◌++◌, Result, Ok, Err, Bool, true, false, length, set, slice_get, slice_set, Option, Some, None, IsSome, is_some, refl, sym, ap, ◌∙◌, subst}
-use Rattle.std.specs.Prelude.{◌&&◌, ◌==◌, nat_lt, if◌then◌else◌, unwrap_or}
-use Rattle.std.proofs.lemmas.Bool.{cases_Bool, cond-true, cond-false, ltb-false}
-use Rattle.std.proofs.lemmas.Bool.Decides.{nat_tests}
+use Rattle.std.proofs.Common.{◌≡◌, ℕ, List, [], ◌∷◌, ◌++◌, Result, Ok, true, length, set, slice_get, slice_set, Option, Some, refl, sym, ◌∙◌, subst}
 use Rattle.nfs2_types.specs.declared.Limits.{Limits}
 use Rattle.nfs2_types.specs.declared.Time.{Time}
-use Rattle.nfs2_types.specs.declared.Sattr.{Sattr}
-use Rattle.nfs2_types.specs.Call.{Call, set_attr, write}
+use Rattle.nfs2_types.specs.Call.{write}
 use Rattle.server_trait.specs.Tree.{Tree, Server, Node, node_at, bytes_in, bytes_at, edited}
 use Rattle.server_trait.specs.Tree as tree
-use Rattle.server_trait.proofs.TreeLaws.{is_some_and, and_then}
 use Rattle.server_trait.specs.declared.bench.ConfEntry.{ConfEntry}
 use Rattle.server_trait.specs.declared.bench.ConfTable.{ConfTable}
 use Rattle.abs_model.specs.declared.entry.Entry.{Entry}
-use Rattle.abs_model.specs.Objects.{is_null, is_file, is_dir, is_link, bytes_of, written}
+use Rattle.abs_model.specs.Objects.{is_file, bytes_of, written}
 use Rattle.abs_model.specs.Array.{entry_at, used}
 use Rattle.abs_model.specs.Machine.{file_limit, no_room}
 use Rattle.abs_model.specs.Machine as machine
 use Rattle.abs_model.proofs.Facts.{AllFalse, none_holds, file_is}
-use Rattle.conf_map.specs.Stands.{handle_at, Stands, StandsValid, HasRoom}
-use Rattle.conf_map.specs.Moves.{IsAt}
+use Rattle.conf_map.specs.Stands.{Stands, StandsValid, HasRoom}
 use Rattle.conf_map.specs.Tables.{touched}
-use Rattle.conf_map.proofs.Agrees.{used_agrees, nodes_few}
-use Rattle.conf_map.proofs.ArrayFacts.{fits_at}
-use Rattle.conf_map.proofs.LiveRows.{is_live, same_content}
-use Rattle.conf_map.proofs.ObjectChanges.{at_index, stands_alike}
+use Rattle.conf_map.proofs.ObjectChanges.{stands_alike}
 use Rattle.wrap_write.specs.declared.target.Target.{Target}
 use Rattle.wrap_write.specs.Puts.{CanHold, size_after}
-use Rattle.wrap_write.specs.Settings.{CanSize, node_set, row_set}
-use Rattle.wrap_write.specs.Targets.{write_tests, size_tests, IsTarget, IsCall}
-use Rattle.wrap_write.proofs.Alike.{file_parts, write_alike, entry_set, set_alike}
-use Rattle.wrap_write.proofs.Edits.{used_more}
-use Rattle.wrap_write.proofs.TargetFacts.{write_refusals, set_refusals}
+use Rattle.wrap_write.specs.Targets.{write_tests, IsCall}
+use Rattle.wrap_write.proofs.Alike.{write_alike}
+use Rattle.wrap_write.proofs.TargetFacts.{write_refusals}
 use Rattle.nfs2_types.specs.declared.Cred.{Cred}
 use Rattle.nfs2_types.specs.declared.Stat.{Stat}
 use Rattle.nfs2_types.specs.declared.Fattr.{Fattr}
@@ -46,7 +35,7 @@ use Rattle.conf_map.specs.Notice.{NoticedAll}
 use Rattle.conf_map.specs.Stands.{StandValid, AreWithin}
 use Rattle.wrap_write.specs.Targets.{CallFound}
 use Rattle.wrap_write.proofs.CallSteps.{call_is, call_told, call_noticed, call_stands, call_again, call_answers}
-use Rattle.wrap_write.proofs.Holdings.{write_suits, alive, short, holds, sized}
+use Rattle.wrap_write.proofs.Holdings.{write_suits, alive, short, holds}
 
 module _ (limits : Limits) (s : Option Tree) (table : ConfTable) (A : List Entry) (k : StandsValid limits s table A) (file : List ℕ) (offset : ℕ) (bytes : List ℕ) (o : Target)
     (c : IsCall A limits table.rows.items (write file offset bytes) file o) where

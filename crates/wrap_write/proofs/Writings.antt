@@ -1,15 +1,15 @@
 -- A piece that is handed to a server until all of it is taken.
-use Rattle.std.proofs.Common.{◌≡◌, ℕ, ◌+◌, ◌-◌, ◌≤◌, ◌<◌, max, arith, true, false, List, length, take, drop, Option, Some, None, Ok, Err, IsSome, is_some, refl, sym, ap, ◌∙◌, subst, length-take, length-drop, inl, inr}
-use Rattle.std.specs.Prelude.{◌==◌, nat_eq}
+use Rattle.std.proofs.Common.{◌≡◌, ℕ, ◌+◌, ◌-◌, ◌≤◌, ◌<◌, max, arith, true, false, List, length, take, drop, Option, Some, Ok, Err, is_some, refl, sym, ap, ◌∙◌, subst, length-drop, inl, inr}
+use Rattle.std.specs.Prelude.{◌==◌}
 use Rattle.std.proofs.lemmas.Bool.{cond-true, cond-false}
-use Rattle.std.proofs.lemmas.List.{length-take-le, nil_from_length, take_rest}
+use Rattle.std.proofs.lemmas.List.{length-take-le, take_rest}
 use Rattle.nfs2_types.specs.Bytes.{resized, overwritten}
 use Rattle.abs_model.specs.Objects.{written}
 use Rattle.server_trait.specs.Tree.{Tree, Server, bytes_at, edited, with_bytes}
 use Rattle.server_trait.specs.Step.{HasTree, IsBroken, NoRoom}
 use Rattle.server_trait.specs.Calls.{Write, WriteErr, Wrote}
 use Rattle.server_trait.specs.declared.server.SrvErr.{SrvErr}
-use Rattle.server_trait.specs.declared.server.SrvErr.TheVariants.{Stale, NoEnt, Exists, NotDir, WrongKind, NotEmpty, Subtree, Refused, Full, Fault, NoMemory}
+use Rattle.server_trait.specs.declared.server.SrvErr.TheVariants.{Refused, Full}
 use Rattle.server_trait.proofs.SoftLaws.{write_soft, failed}
 use Rattle.server_trait.proofs.TreeLaws.{some_and, some_same}
 use Rattle.wrap_write.specs.Puts.{CanHold, size_after}

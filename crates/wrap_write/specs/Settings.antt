@@ -1,5 +1,5 @@
 -- What SETATTR does to a node and to its row (RFC 1094, 2.2.3).
-use Rattle.std.specs.Prelude.{◌≡◌, ℕ, List, Option, Some, None, IsSome, IsSomeAnd, is_some, unwrap_or, if◌then◌else◌}
+use Rattle.std.specs.Prelude.{ℕ, List, Option, Some, None, IsSome, IsSomeAnd, is_some, unwrap_or, if◌then◌else◌}
 use Rattle.nfs2_types.specs.declared.Sattr.{Sattr}
 use Rattle.nfs2_types.specs.declared.Time.{Time}
 use Rattle.nfs2_types.specs.Bytes.{resized}

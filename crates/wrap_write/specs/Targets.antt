@@ -1,5 +1,5 @@
 -- The object of a call that writes a file or sets attributes (RFC 1094, 2.2.3 and 2.2.9).
-use Rattle.std.specs.Prelude.{◌≡◌, ℕ, ◌+◌, max, List, ◌∷◌, [], length, Bool, true, ◌&&◌, nat_lt, is_some, unwrap_or, Option, Some, None, Result, Ok, Err}
+use Rattle.std.specs.Prelude.{◌≡◌, ℕ, ◌+◌, max, List, ◌∷◌, [], length, true, ◌&&◌, nat_lt, is_some, unwrap_or, Option, Some, None, Result, Ok, Err}
 use Rattle.nfs2_types.specs.declared.Limits.{Limits}
 use Rattle.nfs2_types.specs.declared.Stat.{Stat}
 use Rattle.nfs2_types.specs.declared.stat.TheConstants.{ISDIR, ACCES, FBIG, NOSPC}

@@ -55,7 +55,11 @@ pub fn write_proc<M: Modify>(
             let set = set_attr(server, table, limits, time, node, sattr, saver)?;
             Ok(set)
         }
-        Args::Write { file, offset, bytes } => {
+        Args::Write {
+            file,
+            offset,
+            bytes,
+        } => {
             let written = write(server, table, limits, time, file, *offset, bytes, saver)?;
             Ok(written)
         }

@@ -107,7 +107,14 @@ fn no_write(
     if count == 0 {
         return Ok(None);
     }
-    no_space(server, table, limits, attr.size, offset as u64 + count as u64, attr.size)
+    no_space(
+        server,
+        table,
+        limits,
+        attr.size,
+        offset as u64 + count as u64,
+        attr.size,
+    )
 }
 
 /// Why an object can't have a size, if one is given and it can't.
