@@ -34,7 +34,8 @@ pub record IsFile (rows : List ConfEntry) (e : Entry) : Type 0 where
 pub file_parts : (rows : List ConfEntry) (e : Entry) → is_file e ≡ true → IsFile rows e
 file_parts rows e = by_object e.object
   where
-    by_object : (o : Object) → is_file (record { generation = e.generation; object = o }) ≡ true → IsFile rows (record { generation = e.generation; object = o })
+    by_object : (o : Object) → is_file (record { generation = e.generation; object = o }) ≡ true →
+        IsFile rows (record { generation = e.generation; object = o })
     by_object Null is = absurd (let bad : false ≡ true = is in cc)
     by_object (File a b) is = record { names = refl; dir = refl; content = λ c k. k }
     by_object (Dir a b) is = absurd (let bad : false ≡ true = is in cc)
@@ -43,7 +44,8 @@ file_parts rows e = by_object e.object
 attr_of-with_attr : (a : Attr) (e : Entry) → is_null e ≡ false → attr_of (with_attr a e) ≡ a
 attr_of-with_attr a e = by_object e.object
   where
-    by_object : (o : Object) → is_null (record { generation = e.generation; object = o }) ≡ false → attr_of (with_attr a (record { generation = e.generation; object = o })) ≡ a
+    by_object : (o : Object) → is_null (record { generation = e.generation; object = o }) ≡ false →
+        attr_of (with_attr a (record { generation = e.generation; object = o })) ≡ a
     by_object Null live = absurd (let bad : true ≡ false = live in cc)
     by_object (File x b) live = refl
     by_object (Dir x b) live = refl
@@ -52,16 +54,20 @@ attr_of-with_attr a e = by_object e.object
 is_null-with_attr : (a : Attr) (e : Entry) → is_null (with_attr a e) ≡ is_null e
 is_null-with_attr a e = by_object e.object
   where
-    by_object : (o : Object) → is_null (with_attr a (record { generation = e.generation; object = o })) ≡ is_null (record { generation = e.generation; object = o })
+    by_object : (o : Object) →
+        is_null (with_attr a (record { generation = e.generation; object = o }))
+        ≡ is_null (record { generation = e.generation; object = o })
     by_object Null = refl
     by_object (File x b) = refl
     by_object (Dir x b) = refl
     by_object (Link x b) = refl
 
-content-with_attr : (rows : List ConfEntry) (a : Attr) (e : Entry) (c : Content) → SameContent rows e.object c → SameContent rows (with_attr a e).object c
+content-with_attr : (rows : List ConfEntry) (a : Attr) (e : Entry) (c : Content) → SameContent rows e.object c →
+    SameContent rows (with_attr a e).object c
 content-with_attr rows a e c = by_object e.object
   where
-    by_object : (o : Object) → SameContent rows o c → SameContent rows (with_attr a (record { generation = e.generation; object = o })).object c
+    by_object : (o : Object) → SameContent rows o c →
+        SameContent rows (with_attr a (record { generation = e.generation; object = o })).object c
     by_object Null k = k
     by_object (File x b) k = k
     by_object (Dir x b) k = k
@@ -69,7 +75,8 @@ content-with_attr rows a e c = by_object e.object
 
 -- WRITE
 
-pub write_alike : (rows : List ConfEntry) (e : Entry) (g : List ℕ → List ℕ) (t : Time) → is_file e ≡ true → ChangesAlike rows e (machine.with_bytes g t e) (tree.with_bytes g) (touched t)
+pub write_alike : (rows : List ConfEntry) (e : Entry) (g : List ℕ → List ℕ) (t : Time) → is_file e ≡ true →
+    ChangesAlike rows e (machine.with_bytes g t e) (tree.with_bytes g) (touched t)
 write_alike rows e g t file =
     let parts = file_parts rows e file in
     record {
@@ -80,7 +87,15 @@ write_alike rows e g t file =
       names = sym parts.names;
       dir = sym parts.dir;
       live = refl;
-      attr = λ r n k. record { number = k.number; mode = k.mode; uid = k.uid; gid = k.gid; atime = k.atime; mtime = refl; ctime = refl };
+      attr = λ r n k. record {
+        number = k.number;
+        mode = k.mode;
+        uid = k.uid;
+        gid = k.gid;
+        atime = k.atime;
+        mtime = refl;
+        ctime = refl;
+      };
       content = λ n k. with_bytes_content g n (bytes_of e) (parts.content n.content k);
     }
 
@@ -90,16 +105,19 @@ write_alike rows e g t file =
 abbrev pub entry_set : Entry → Sattr → Time → Entry
 entry_set e s t =
     let new = set_attr_of s t (attr_of e) in
-    if is_some s.size then record { generation = e.generation; object = File new (resized (unwrap_or s.size 0) (bytes_of e)) } else with_attr new e
+    if is_some s.size then record { generation = e.generation; object = File new (resized (unwrap_or s.size 0) (bytes_of e)) }
+    else with_attr new e
 
-module _ (rows : List ConfEntry) (e : Entry) (s : Sattr) (a : NodeAttr) (t : Time) (live : is_null e ≡ false) (seen : IsSeen e a) where
+module _ (rows : List ConfEntry) (e : Entry) (s : Sattr) (a : NodeAttr) (t : Time) (live : is_null e ≡ false)
+    (seen : IsSeen e a) where
   abbrev new : Attr
   new = set_attr_of s t (attr_of e)
 
   abbrev set_on : Node → Node
   set_on n = tree.with_attr (unwrap_or s.mode a.mode) (unwrap_or s.uid a.uid) (unwrap_or s.gid a.gid) n
 
-  same_new : (r : ConfEntry) (n m : Node) → m.number ≡ n.number → SameAttr (attr_of e) r n → SameAttr new (row_set s t r) (set_on m)
+  same_new : (r : ConfEntry) (n m : Node) → m.number ≡ n.number → SameAttr (attr_of e) r n →
+      SameAttr new (row_set s t r) (set_on m)
   same_new r n m number k = record {
     number = k.number ∙ sym number;
     mode = ap (unwrap_or s.mode) seen.mode;
@@ -111,7 +129,9 @@ module _ (rows : List ConfEntry) (e : Entry) (s : Sattr) (a : NodeAttr) (t : Tim
   }
 
   by_size : (size : Option ℕ) → (is_some size && is_dir e) ≡ false → (is_some size && is_link e) ≡ false →
-      ChangesAlike rows e (if is_some size then record { generation = e.generation; object = File new (resized (unwrap_or size 0) (bytes_of e)) } else with_attr new e)
+      ChangesAlike rows e
+      (if is_some size then record { generation = e.generation; object = File new (resized (unwrap_or size 0) (bytes_of e)) }
+      else with_attr new e)
       (λ n. set_on (node_sized size n)) (row_set s t)
   by_size None no_dir no_link = record {
     number = λ n. refl;
@@ -121,7 +141,8 @@ module _ (rows : List ConfEntry) (e : Entry) (s : Sattr) (a : NodeAttr) (t : Tim
     names = names_of-with_attr new e;
     dir = is_dir-with_attr new e;
     live = is_null-with_attr new e ∙ live;
-    attr = λ r n k. subst (λ a. SameAttr a (row_set s t r) (set_on n)) (sym (attr_of-with_attr new e live)) (same_new r n n refl k);
+    attr = λ r n k. subst (λ a. SameAttr a (row_set s t r) (set_on n)) (sym (attr_of-with_attr new e live))
+        (same_new r n n refl k);
     content = λ n k. content-with_attr rows new e n.content k;
   }
   by_size (Some size) no_dir no_link =
@@ -138,5 +159,6 @@ module _ (rows : List ConfEntry) (e : Entry) (s : Sattr) (a : NodeAttr) (t : Tim
         content = λ n k. with_bytes_content (resized size) n (bytes_of e) (parts.content n.content k);
       }
 
-  pub set_alike : (is_some s.size && is_dir e) ≡ false → (is_some s.size && is_link e) ≡ false → ChangesAlike rows e (entry_set e s t) (node_set s a) (row_set s t)
+  pub set_alike : (is_some s.size && is_dir e) ≡ false → (is_some s.size && is_link e) ≡ false →
+      ChangesAlike rows e (entry_set e s t) (node_set s a) (row_set s t)
   set_alike = by_size s.size

@@ -10,7 +10,9 @@ use Rattle.nfs2_types.specs.Bytes.{resized, overwritten}
 -- LENGTHS
 
 pub length-resized : (n : ℕ) (b : List ℕ) → length (resized n b) ≡ n
-length-resized n b = omega (arith, length-append (take n b) (replicate (n - length b) 0), length-take n b, length-replicate {A = ℕ} (n - length b) 0)
+length-resized n b =
+    let zeros = length-replicate {A = ℕ} (n - length b) 0 in
+    omega (arith, length-append (take n b) (replicate (n - length b) 0), length-take n b, zeros)
 
 pub length-overwritten : (o : ℕ) (p b : List ℕ) → length (overwritten o p b) ≡ max (length b) (o + length p)
 length-overwritten o p b =
@@ -24,7 +26,8 @@ length-overwritten o p b =
 
 -- bytes that are cut
 pub resized_short : (n : ℕ) (b : List ℕ) → n ≤ length b → resized n b ≡ take n b
-resized_short n b short = ap (λ k. take n b ++ replicate k 0) (let none : n - length b ≡ zero = omega arith in none) ∙ append-nil (take n b)
+resized_short n b short = ap (λ k. take n b ++ replicate k 0) (let none : n - length b ≡ zero = omega arith in none)
+    ∙ append-nil (take n b)
 
 -- bytes that have the size already
 pub resized_same : (n : ℕ) (b : List ℕ) → n ≡ length b → resized n b ≡ b
@@ -48,7 +51,8 @@ overwritten_filled o p b = elim (cases_lt (length b) o) [
       let long = length-resized o b in
       ap (λ n. overwritten o p (resized n b)) size
       ∙ ap (λ l. l ++ p ++ drop (o + length p) (resized o b)) (resized_same o (resized o b) (sym long))
-      ∙ ap (λ l. resized o b ++ p ++ l) (drop_of_length-le (resized o b) (omega (arith, long)) ∙ sym (drop_of_length-le b (omega arith)))
+      ∙ ap (λ l. resized o b ++ p ++ l)
+          (drop_of_length-le (resized o b) (omega (arith, long)) ∙ sym (drop_of_length-le b (omega arith)))
   | inr long ↦ ap (overwritten o p) (resized_same (max (length b) o) b (omega arith))
 ]
 
@@ -70,7 +74,8 @@ module _ (o k c : ℕ) (p b : List ℕ) (below : k + c ≤ length p) where
   long_both = length-take-le (k + c) p below
 
   long_front : length (resized o b ++ take k p) ≡ o + k
-  long_front = let front = length-append (resized o b) (take k p) in let start = length-resized o b in omega (arith, front, start, long_first)
+  long_front = let front = length-append (resized o b) (take k p) in let start = length-resized o b in
+      omega (arith, front, start, long_first)
 
   front : resized (o + k) first ≡ resized o b ++ take k p
   front =
@@ -81,11 +86,13 @@ module _ (o k c : ℕ) (p b : List ℕ) (below : k + c ≤ length p) where
 
   rest : drop (o + k + length next) first ≡ drop (o + length (take (k + c) p)) b
   rest =
-      drop-append-drop (o + length (take k p)) b (resized o b ++ take k p) (o + k + length next) (omega (arith, long_first)) (omega (arith, long_front, long_first))
+      drop-append-drop (o + length (take k p)) b (resized o b ++ take k p) (o + k + length next)
+          (omega (arith, long_first)) (omega (arith, long_front, long_first))
       ∙ ap (λ n. drop n b) (omega (arith, long_next, long_both))
 
   pub overwritten_more : overwritten (o + k) next first ≡ overwritten o (take (k + c) p) b
   overwritten_more =
       ap (λ l. l ++ next ++ drop (o + k + length next) first) front
-      ∙ ap (λ l. l ++ drop (o + k + length next) first) (append_assoc (resized o b) (take k p) next ∙ ap (λ l. resized o b ++ l) (sym (take-add k c p)))
+      ∙ ap (λ l. l ++ drop (o + k + length next) first)
+          (append_assoc (resized o b) (take k p) next ∙ ap (λ l. resized o b ++ l) (sym (take-add k c p)))
       ∙ ap (λ l. resized o b ++ take (k + c) p ++ l) rest

@@ -28,7 +28,8 @@ use Rattle.wrap_write.specs.Targets.{IsCall, CallFound}
 nobody : Cred
 nobody = record { uid = 0; gid = 0; gids = [] }
 
-module _ (limits : Limits) (s : Option Tree) (table : ConfTable) (t : Time) (call : Call) (node : List ℕ) (r : Result Target Stat)
+module _ (limits : Limits) (s : Option Tree) (table : ConfTable) (t : Time) (call : Call) (node : List ℕ)
+    (r : Result Target Stat)
     (found : (A : List Entry) → StandsValid limits s table A → CallFound A limits table.rows.items call node r) where
   -- REFUSED
 
@@ -42,14 +43,19 @@ module _ (limits : Limits) (s : Option Tree) (table : ConfTable) (t : Time) (cal
 
     -- nothing has changed
     pub refusal_stands : (s' : Option Tree) → s' ≡ s → Stands s' table (array_after A limits cred t call)
-    refusal_stands s' same = subst (λ s. Stands s table (array_after A limits cred t call)) (sym same) (subst (Stands s table) (sym (answers.refused_array A limits cred t call stat first)) k.stands)
+    refusal_stands s' same = subst (λ s. Stands s table (array_after A limits cred t call)) (sym same)
+        (subst (Stands s table) (sym (answers.refused_array A limits cred t call stat first)) k.stands)
 
     -- and nothing is told
     pub refusal_told : (old : List ℕ) → old ≡ old ++ told A limits cred t call
-    refusal_told old = sym (append-nil old) ∙ ap (λ l. old ++ l) (sym (answers.refused_told A limits cred t call stat first))
+    refusal_told old = sym (append-nil old)
+        ∙ ap (λ l. old ++ l) (sym (answers.refused_told A limits cred t call stat first))
 
-    pub refusal_noticed : {M : Type 0} (noticed : M → List Entry → ℕ → M → Type 0) (saver : M) → NoticedAll noticed A saver (told A limits cred t call) saver
-    refusal_noticed noticed saver = subst (λ l. NoticedAll noticed A saver l saver) (sym (answers.refused_told A limits cred t call stat first)) refl
+    pub refusal_noticed : {M : Type 0} (noticed : M → List Entry → ℕ → M → Type 0) (saver : M) →
+        NoticedAll noticed A saver (told A limits cred t call) saver
+    refusal_noticed noticed saver =
+        subst (λ l. NoticedAll noticed A saver l saver) (sym (answers.refused_told A limits cred t call stat first))
+        refl
 
   -- DONE
 
@@ -58,7 +64,9 @@ module _ (limits : Limits) (s : Option Tree) (table : ConfTable) (t : Time) (cal
     pub call_is : (A : List Entry) → StandsValid limits s table A → IsCall A limits table.rows.items call node o
     call_is A k = subst (CallFound A limits table.rows.items call node) is (found A k)
 
-    module _ (entry : List Entry → Entry) (one : (A : List Entry) (cred : Cred) → changes A cred t call ≡ to_be (at A node) (entry A) ∷ []) (A : List Entry) (cred : Cred) (k : StandsValid limits s table A) where
+    module _ (entry : List Entry → Entry)
+        (one : (A : List Entry) (cred : Cred) → changes A cred t call ≡ to_be (at A node) (entry A) ∷ [])
+        (A : List Entry) (cred : Cred) (k : StandsValid limits s table A) where
       c : IsCall A limits table.rows.items call node o
       c = call_is A k
 
@@ -75,8 +83,10 @@ module _ (limits : Limits) (s : Option Tree) (table : ConfTable) (t : Time) (cal
       pub call_told : (old new : List ℕ) → new ≡ old ++ o.at.index ∷ [] → new ≡ old ++ told A limits cred t call
       call_told old new is = is ∙ ap (λ l. old ++ l) (sym told_one)
 
-      pub call_noticed : {M : Type 0} (noticed : M → List Entry → ℕ → M → Type 0) (old new : M) → AreWithin limits → (s' : Option Tree) → s' ≡ s →
-          ((A : List Entry) → StandValid s' table A → noticed old A o.at.index new) → NoticedAll noticed A old (told A limits cred t call) new
+      pub call_noticed : {M : Type 0} (noticed : M → List Entry → ℕ → M → Type 0) (old new : M) → AreWithin limits →
+          (s' : Option Tree) → s' ≡ s →
+          ((A : List Entry) → StandValid s' table A → noticed old A o.at.index new) →
+              NoticedAll noticed A old (told A limits cred t call) new
       call_noticed noticed old new within s' same note =
           subst (λ l. NoticedAll noticed A old l new) (sym told_one)
           (new, note A (subst (λ s. StandValid s table A) (sym same) (stand_valid limits s table A within k)), refl)
@@ -86,10 +96,13 @@ module _ (limits : Limits) (s : Option Tree) (table : ConfTable) (t : Time) (cal
       array_is = answers.answered_array A limits cred t call c.none ∙ ap (λ cs. changed cs A) changes_are
 
       -- what stands for the array with the other entry stands for the array after the call
-      pub call_stands : (s' s'' : Option Tree) (table' : ConfTable) → s'' ≡ s' → Stands s' table' (set A o.at.index (entry A)) → Stands s'' table' (array_after A limits cred t call)
-      call_stands s' s'' table' same stands = subst (λ s. Stands s table' (array_after A limits cred t call)) (sym same) (subst (Stands s' table') (sym array_is) stands)
+      pub call_stands : (s' s'' : Option Tree) (table' : ConfTable) → s'' ≡ s' →
+          Stands s' table' (set A o.at.index (entry A)) → Stands s'' table' (array_after A limits cred t call)
+      call_stands s' s'' table' same stands = subst (λ s. Stands s table' (array_after A limits cred t call))
+          (sym same) (subst (Stands s' table') (sym array_is) stands)
 
-      module _ (within : AreWithin limits) (moment : is_time t ≡ true) (fits : call_fits call ≡ true) (s' : Option Tree) (table' : ConfTable) (stands : Stands s' table' (set A o.at.index (entry A))) where
+      module _ (within : AreWithin limits) (moment : is_time t ≡ true) (fits : call_fits call ≡ true)
+          (s' : Option Tree) (table' : ConfTable) (stands : Stands s' table' (set A o.at.index (entry A))) where
         -- which is valid
         again : StandValid s' table' (array_after A limits cred t call)
         again = record {
@@ -101,13 +114,20 @@ module _ (limits : Limits) (s : Option Tree) (table : ConfTable) (t : Time) (cal
 
         -- the call answers with the object's attributes
         pub call_answers : ((A B : List Entry) → answer A B limits call ≡ results.Attr (fattr B (at A node))) →
-            (f : Fattr) → ((A : List Entry) → StandValid s' table' A → f ≡ fattr A o.at.index) → results.Attr f ≡ result_of A limits cred t call
+            (f : Fattr) → ((A : List Entry) → StandValid s' table' A → f ≡ fattr A o.at.index) →
+                results.Attr f ≡ result_of A limits cred t call
         call_answers shows f shown =
-            ap results.Attr (shown (array_after A limits cred t call) again ∙ ap (fattr (array_after A limits cred t call)) (sym at_index))
+            ap results.Attr
+                (shown (array_after A limits cred t call) again
+                ∙ ap (fattr (array_after A limits cred t call)) (sym at_index))
             ∙ sym (shows A (array_after A limits cred t call))
             ∙ sym (answers.answered A limits cred t call c.none)
 
     -- server and table stand for a valid array again
-    pub call_again : (entry : List Entry → Entry) → ((A : List Entry) (cred : Cred) → changes A cred t call ≡ to_be (at A node) (entry A) ∷ []) → AreWithin limits → is_time t ≡ true → call_fits call ≡ true →
-        (s' : Option Tree) (table' : ConfTable) → (A : List Entry) → StandsValid limits s table A → Stands s' table' (set A o.at.index (entry A)) → (B : List Entry) × StandValid s' table' B
-    call_again entry one within moment fits s' table' A k stands = (array_after A limits nobody t call, again entry one A nobody k within moment fits s' table' stands)
+    pub call_again : (entry : List Entry → Entry) →
+        ((A : List Entry) (cred : Cred) → changes A cred t call ≡ to_be (at A node) (entry A) ∷ []) →
+        AreWithin limits → is_time t ≡ true → call_fits call ≡ true →
+        (s' : Option Tree) (table' : ConfTable) → (A : List Entry) → StandsValid limits s table A →
+            Stands s' table' (set A o.at.index (entry A)) → (B : List Entry) × StandValid s' table' B
+    call_again entry one within moment fits s' table' A k stands =
+        (array_after A limits nobody t call, again entry one A nobody k within moment fits s' table' stands)

@@ -12,15 +12,18 @@ use Rattle.wrap_write.specs.Puts.{CanHold}
 
 -- what is put in as it was changes nothing
 insert_same : (m : ByBytes Node) (h : List ℕ) (n : Node) → get m h ≡ Some n → insert m h n ≡ m
-insert_same m h n is = same_answers (insert m h n) m (λ q. elim (bytes_or_not q h) as (λ _. get (insert m h n) q ≡ get m q) [
+insert_same m h n is =
+    same_answers (insert m h n) m (λ q. elim (bytes_or_not q h) as (λ _. get (insert m h n) q ≡ get m q) [
   | inl e ↦ subst (λ q. get (insert m h n) q ≡ get m q) (sym e) (get-insert_same m h n ∙ sym is)
   | inr ne ↦ get-insert_other m h n q ne
 ])
 
 -- of two nodes the later stays
 insert_twice : (m : ByBytes Node) (h : List ℕ) (a b : Node) → insert (insert m h a) h b ≡ insert m h b
-insert_twice m h a b = same_answers (insert (insert m h a) h b) (insert m h b) (λ q. elim (bytes_or_not q h) as (λ _. get (insert (insert m h a) h b) q ≡ get (insert m h b) q) [
-  | inl e ↦ subst (λ q. get (insert (insert m h a) h b) q ≡ get (insert m h b) q) (sym e) (get-insert_same (insert m h a) h b ∙ sym (get-insert_same m h b))
+insert_twice m h a b = same_answers (insert (insert m h a) h b) (insert m h b)
+    (λ q. elim (bytes_or_not q h) as (λ _. get (insert (insert m h a) h b) q ≡ get (insert m h b) q) [
+  | inl e ↦ subst (λ q. get (insert (insert m h a) h b) q ≡ get (insert m h b) q) (sym e)
+      (get-insert_same (insert m h a) h b ∙ sym (get-insert_same m h b))
   | inr ne ↦ get-insert_other (insert m h a) h b q ne ∙ get-insert_other m h a q ne ∙ sym (get-insert_other m h b q ne)
 ])
 
@@ -65,11 +68,13 @@ file_at t h b is =
     record { node = n.0; is_node = n.1; content = bytes_content n.0.content b n.2 }
 
 -- its bytes, changed
-pub with_bytes_content : (g : List ℕ → List ℕ) (n : Node) (b : List ℕ) → n.content ≡ BytesOf b → (with_bytes g n).content ≡ BytesOf (g b)
+pub with_bytes_content : (g : List ℕ → List ℕ) (n : Node) (b : List ℕ) → n.content ≡ BytesOf b →
+    (with_bytes g n).content ≡ BytesOf (g b)
 with_bytes_content g n b is = ap (λ c. (with_bytes g (record n { content = c })).content) is
 
 -- it is the node with the content put in
-pub with_bytes_is : (g : List ℕ → List ℕ) (n : Node) (b : List ℕ) → n.content ≡ BytesOf b → with_bytes g n ≡ record n { content = BytesOf (g b) }
+pub with_bytes_is : (g : List ℕ → List ℕ) (n : Node) (b : List ℕ) → n.content ≡ BytesOf b →
+    with_bytes g n ≡ record n { content = BytesOf (g b) }
 with_bytes_is g n b is = ap (λ c. let new : Node = record n { content = c } in new) (with_bytes_content g n b is)
 
 module _ (t : Tree) (h b : List ℕ) (is : bytes_at t h ≡ Some b) where
@@ -83,14 +88,19 @@ module _ (t : Tree) (h b : List ℕ) (is : bytes_at t h ≡ Some b) where
   content = (file_at t h b is).content
 
   pub bytes_at-edited : (g : List ℕ → List ℕ) → bytes_at (edited t h (with_bytes g)) h ≡ Some (g b)
-  bytes_at-edited g = and_then (λ (n : Node). bytes_in n.content) (node_at (edited t h (with_bytes g)) h) (with_bytes g n) (node_at-edited_same t h (with_bytes g) n at) ∙ ap bytes_in (with_bytes_content g n b content)
+  bytes_at-edited g = and_then (λ (n : Node). bytes_in n.content) (node_at (edited t h (with_bytes g)) h)
+      (with_bytes g n) (node_at-edited_same t h (with_bytes g) n at) ∙ ap bytes_in (with_bytes_content g n b content)
 
   -- bytes that stay
   pub bytes_same : (g : List ℕ → List ℕ) → g b ≡ b → edited t h (with_bytes g) ≡ t
-  bytes_same g same = edited_same t h n at (with_bytes g) (with_bytes_is g n b content ∙ ap (λ b. let new : Node = record n { content = BytesOf b } in new) same ∙ ap (λ c. let new : Node = record n { content = c } in new) (sym content))
+  bytes_same g same =
+      edited_same t h n at (with_bytes g)
+      (with_bytes_is g n b content ∙ ap (λ b. let new : Node = record n { content = BytesOf b } in new) same
+      ∙ ap (λ c. let new : Node = record n { content = c } in new) (sym content))
 
   -- bytes that are changed twice
-  pub bytes_twice : (f g k : List ℕ → List ℕ) → g (f b) ≡ k b → edited (edited t h (with_bytes f)) h (with_bytes g) ≡ edited t h (with_bytes k)
+  pub bytes_twice : (f g k : List ℕ → List ℕ) → g (f b) ≡ k b →
+      edited (edited t h (with_bytes f)) h (with_bytes g) ≡ edited t h (with_bytes k)
   bytes_twice f g k same = edited_twice t h n at (with_bytes f) (with_bytes g) (with_bytes k)
       (with_bytes_is g (with_bytes f n) (f b) (with_bytes_content f n b content)
       ∙ ap (λ b. let new : Node = record n { content = BytesOf b } in new) same
@@ -98,7 +108,8 @@ module _ (t : Tree) (h b : List ℕ) (is : bytes_at t h ≡ Some b) where
 
   -- bytes that are changed alike
   pub bytes_alike : (g k : List ℕ → List ℕ) → g b ≡ k b → edited t h (with_bytes g) ≡ edited t h (with_bytes k)
-  bytes_alike g k same = ap (λ t. edited t h (with_bytes g)) (sym (bytes_same (λ b. b) refl)) ∙ bytes_twice (λ b. b) g k same
+  bytes_alike g k same = ap (λ t. edited t h (with_bytes g)) (sym (bytes_same (λ b. b) refl))
+      ∙ bytes_twice (λ b. b) g k same
 
   pub used_file : (g : List ℕ → List ℕ) → used (edited t h (with_bytes g)) + length b ≡ used t + length (g b)
   used_file g =
@@ -117,14 +128,22 @@ module _ (t : Tree) (h b : List ℕ) (is : bytes_at t h ≡ Some b) where
 -- ROOM
 
 -- room for a smaller file
-pub holds_less : (s : Server) (h b : List ℕ) (size : ℕ) → CanHold s h b size → (size' : ℕ) → size' ≤ size → CanHold s h b size'
+pub holds_less : (s : Server) (h b : List ℕ) (size : ℕ) → CanHold s h b size → (size' : ℕ) → size' ≤ size →
+    CanHold s h b size'
 holds_less s h b size c size' less =
     let bytes = c.room.1 in
     let small = c.small in
-    record { tree = c.tree; has_tree = c.has_tree; has_bytes = c.has_bytes; room = (c.room.0, omega (arith, bytes, less)); small = omega (arith, small, less) }
+    record {
+      tree = c.tree;
+      has_tree = c.has_tree;
+      has_bytes = c.has_bytes;
+      room = (c.room.0, omega (arith, bytes, less));
+      small = omega (arith, small, less);
+    }
 
 -- a server that can hold a file of some size can hold the file with other bytes at that size, and at a smaller one
-pub holds_edited : (s s' : Server) (h b : List ℕ) (size : ℕ) (c : CanHold s h b size) (g : List ℕ → List ℕ) → s'.tree ≡ Some (edited c.tree h (with_bytes g)) → s'.limits ≡ s.limits →
+pub holds_edited : (s s' : Server) (h b : List ℕ) (size : ℕ) (c : CanHold s h b size) (g : List ℕ → List ℕ) →
+    s'.tree ≡ Some (edited c.tree h (with_bytes g)) → s'.limits ≡ s.limits →
     (size' : ℕ) → size' ≤ size → CanHold s' h (g b) size'
 holds_edited s s' h b size c g tree limits size' less =
     let f = file_at c.tree h b c.has_bytes in

@@ -41,7 +41,9 @@ pub record Suits (limits : Limits) (all goes size : ℕ) : Type 0 where
   pub small : size ≤ 1048576
 
 -- the size of a file that is written
-pub write_suits : (limits : Limits) (all l o n : ℕ) → all ≤ limits.t → l ≤ 1048576 → (nat_lt 0 n && nat_lt file_limit (o + n)) ≡ false → (nat_lt 0 n && nat_lt limits.t (all + max l (o + n) - l)) ≡ false →
+pub write_suits : (limits : Limits) (all l o n : ℕ) → all ≤ limits.t → l ≤ 1048576 →
+    (nat_lt 0 n && nat_lt file_limit (o + n)) ≡ false →
+    (nat_lt 0 n && nat_lt limits.t (all + max l (o + n) - l)) ≡ false →
     Suits limits all l (size_after o n l)
 write_suits limits all l o n within short big full = elim (cases_Bool (n == 0)) [
   | inl none ↦
@@ -49,14 +51,17 @@ write_suits limits all l o n within short big full = elim (cases_Bool (n == 0)) 
       record { space = omega (arith, same, within); small = omega (arith, same, short) }
   | inr some ↦
       let same : size_after o n l ≡ max l (o + n) = cond-false (n == 0) l (max l (o + n)) some in
-      let small = ltb-false file_limit (o + n) (other (nat_lt 0 n) (nat_lt file_limit (o + n)) (some_more n some) big) in
-      let left = ltb-false limits.t (all + max l (o + n) - l) (other (nat_lt 0 n) (nat_lt limits.t (all + max l (o + n) - l)) (some_more n some) full) in
+      let small = ltb-false file_limit (o + n)
+          (other (nat_lt 0 n) (nat_lt file_limit (o + n)) (some_more n some) big) in
+      let left = ltb-false limits.t (all + max l (o + n) - l)
+          (other (nat_lt 0 n) (nat_lt limits.t (all + max l (o + n) - l)) (some_more n some) full) in
       record { space = omega (arith, same, left); small = omega (arith, same, small, short) }
 ]
 
 -- OBJECTS
 
-module _ (limits : Limits) (s : Option Tree) (table : ConfTable) (A : List Entry) (k : StandsValid limits s table A) (node : List ℕ) (o : Target) (c : IsTarget A table.rows.items node o) where
+module _ (limits : Limits) (s : Option Tree) (table : ConfTable) (A : List Entry) (k : StandsValid limits s table A)
+    (node : List ℕ) (o : Target) (c : IsTarget A table.rows.items node o) where
   abbrev i : ℕ
   i = o.at.index
 
@@ -85,10 +90,14 @@ module _ (limits : Limits) (s : Option Tree) (table : ConfTable) (A : List Entry
 
   module _ (server : Server) (same : server.tree ≡ s) (room : HasRoom limits server.limits) where
     -- the server has room for a file of a size that suits
-    pub holds : is_file e ≡ true → (size : ℕ) → Suits limits (used A) (length (bytes_of e)) size → CanHold server h (bytes_of e) size
+    pub holds : is_file e ≡ true → (size : ℕ) → Suits limits (used A) (length (bytes_of e)) size →
+        CanHold server h (bytes_of e) size
     holds file size suits =
-        let content = (file_parts table.rows.items e file).content at.1.content (same_content s table A k.stands i h at.0 at.1 e at.2) in
-        let bytes : bytes_at k.stands.tree h ≡ Some (bytes_of e) = and_then (λ (n : Node). bytes_in n.content) (node_at k.stands.tree h) at.1 at.2.is_node ∙ ap bytes_in content in
+        let content = (file_parts table.rows.items e file).content at.1.content
+            (same_content s table A k.stands i h at.0 at.1 e at.2) in
+        let bytes : bytes_at k.stands.tree h ≡ Some (bytes_of e) =
+            and_then (λ (n : Node). bytes_in n.content) (node_at k.stands.tree h) at.1 at.2.is_node
+            ∙ ap bytes_in content in
         let all = used_agrees limits s table A k.stands k.valid in
         let few = nodes_few limits s table A k.stands k.valid in
         let least = used_more k.stands.tree h (bytes_of e) bytes in
@@ -110,4 +119,5 @@ module _ (limits : Limits) (s : Option Tree) (table : ConfTable) (A : List Entry
     sized None none = is_some_and (λ t. IsSome (node_at t h)) (same ∙ k.stands.has_tree) there
     sized (Some size) none =
         let left = ltb-false limits.t (used A + size - length (bytes_of e)) none.1.1.1.0 in
-        (bytes_of e, holds (file_is e alive none.0 none.1.0) size (record { space = omega (arith, left); small = ltb-false file_limit size none.1.1.0 }))
+        (bytes_of e, holds (file_is e alive none.0 none.1.0) size
+            (record { space = omega (arith, left); small = ltb-false file_limit size none.1.1.0 }))

@@ -31,12 +31,14 @@ module _ (s : Server) (h : List ℕ) (size : Option ℕ) (can : CanSize s h size
 
   -- no size changes nothing
   pub none_sized : size ≡ None → (t : Tree) → s.tree ≡ Some t → s.tree ≡ Some (edited t h (node_sized size))
-  none_sized none t is = is ∙ ap Some (sym (edited_same t h k.node (node_of t is) (node_sized size) (ap (λ o. node_sized o k.node) none)))
+  none_sized none t is = is
+      ∙ ap Some (sym (edited_same t h k.node (node_of t is) (node_sized size) (ap (λ o. node_sized o k.node) none)))
 
   module _ (s1 : Option Tree) (sized : (t : Tree) → s.tree ≡ Some t → s1 ≡ Some (edited t h (node_sized size))) where
     -- the node is still there
     pub still_node : IsSomeAnd s1 (λ t. IsSome (node_at t h))
-    still_node = is_some_and (λ t. IsSome (node_at t h)) (sized k.tree k.has_tree) (ap is_some (node_at-edited_same k.tree h (node_sized size) k.node k.is_node))
+    still_node = is_some_and (λ t. IsSome (node_at t h)) (sized k.tree k.has_tree)
+        (ap is_some (node_at-edited_same k.tree h (node_sized size) k.node k.is_node))
 
     -- and has all that is given
     pub all_set : (s2 : Option Tree) (mode uid gid mode' uid' gid' : ℕ) → mode ≡ mode' → uid ≡ uid' → gid ≡ gid' →
@@ -44,5 +46,8 @@ module _ (s : Server) (h : List ℕ) (size : Option ℕ) (can : CanSize s h size
         (t : Tree) → s.tree ≡ Some t → s2 ≡ Some (edited t h (λ n. with_attr mode' uid' gid' (node_sized size n)))
     all_set s2 mode uid gid mode' uid' gid' m u g set t is =
         set (edited t h (node_sized size)) (sized t is)
-        ∙ ap Some (edited_twice t h k.node (node_of t is) (node_sized size) (with_attr mode uid gid) (λ n. with_attr mode' uid' gid' (node_sized size n))
-        (ap (λ x. with_attr x uid gid (node_sized size k.node)) m ∙ ap (λ x. with_attr mode' x gid (node_sized size k.node)) u ∙ ap (λ x. with_attr mode' uid' x (node_sized size k.node)) g))
+        ∙ ap Some (edited_twice t h k.node (node_of t is) (node_sized size) (with_attr mode uid gid)
+            (λ n. with_attr mode' uid' gid' (node_sized size n))
+        (ap (λ x. with_attr x uid gid (node_sized size k.node)) m
+            ∙ ap (λ x. with_attr mode' x gid (node_sized size k.node)) u
+            ∙ ap (λ x. with_attr mode' uid' x (node_sized size k.node)) g))

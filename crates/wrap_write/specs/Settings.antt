@@ -21,7 +21,8 @@ node_sized (Some size) n = with_bytes (resized size) n
 
 -- and with the mode and the owners that are given, or those that it had
 abbrev pub node_set : Sattr → NodeAttr → Node → Node
-node_set s a n = with_attr (unwrap_or s.mode a.mode) (unwrap_or s.uid a.uid) (unwrap_or s.gid a.gid) (node_sized s.size n)
+node_set s a n = with_attr (unwrap_or s.mode a.mode) (unwrap_or s.uid a.uid) (unwrap_or s.gid a.gid)
+    (node_sized s.size n)
 
 -- a row with the times that are given; with a size and no mtime its object was written at t
 abbrev pub row_set : Sattr → Time → ConfEntry → ConfEntry

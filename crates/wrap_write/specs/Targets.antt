@@ -31,7 +31,8 @@ no_file a = first_of ((is_dir_kind a.kind answers ISDIR) ∷ (is_link_kind a.kin
 
 -- the first refusal of bytes that end there and come in place of others
 abbrev pub no_space : List Entry → Limits → ℕ → ℕ → ℕ → Option Stat
-no_space A limits goes end comes = first_of ((nat_lt file_limit end answers FBIG) ∷ (no_room A limits goes comes answers NOSPC) ∷ [])
+no_space A limits goes end comes =
+    first_of ((nat_lt file_limit end answers FBIG) ∷ (no_room A limits goes comes answers NOSPC) ∷ [])
 
 -- the tests of an entry at which bytes are written
 abbrev pub write_tests : List Entry → Limits → Entry → ℕ → ℕ → List Refusal
@@ -39,7 +40,8 @@ write_tests A limits e offset count =
     (is_dir e answers ISDIR) ∷
     (is_link e answers ACCES) ∷
     (nat_lt 0 count && nat_lt file_limit (offset + count) answers FBIG) ∷
-    (nat_lt 0 count && no_room A limits (length (bytes_of e)) (max (length (bytes_of e)) (offset + count)) answers NOSPC) ∷ []
+    (nat_lt 0 count && no_room A limits (length (bytes_of e)) (max (length (bytes_of e)) (offset + count)) answers
+        NOSPC) ∷ []
 
 -- the tests of an entry that gets a size, if one is given
 abbrev pub size_tests : List Entry → Limits → Entry → Option ℕ → List Refusal
@@ -50,7 +52,8 @@ size_tests A limits e size =
     (is_some size && no_room A limits (length (bytes_of e)) (unwrap_or size 0) answers NOSPC) ∷ []
 
 -- a call that is not refused, and its object
-pub record IsCall (A : List Entry) (limits : Limits) (rows : List ConfEntry) (call : Call) (node : List ℕ) (o : Target) : Type 0 where
+pub record IsCall (A : List Entry) (limits : Limits) (rows : List ConfEntry) (call : Call) (node : List ℕ)
+    (o : Target) : Type 0 where
   pub none : first_of (refusals A limits call) ≡ None
   pub target : IsTarget A rows node o
 

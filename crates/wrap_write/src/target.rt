@@ -6,7 +6,7 @@ ghost use Rattle.abs_model.specs.declared.entry.Entry.{Entry};
 ghost use Rattle.abs_model.specs.Machine.{first_of};
 ghost use Rattle.conf_map.specs.Found.{IsSeen};
 ghost use Rattle.conf_map.specs.Notice.{Watched};
-ghost use Rattle.conf_map.specs.Stands.{StandsValid, AreWithin};
+ghost use Rattle.conf_map.specs.Stands.{StandValid, StandsValid, AreWithin};
 ghost use Rattle.wrap_write.specs.Targets as targets;
 ghost use Rattle.wrap_write.specs.Targets.{write_tests, size_tests, TargetFound, CallFound};
 
@@ -28,13 +28,11 @@ pub struct Target {
 fn find_target(
     server: &mut Srv,
     table: &ConfTable,
-    limits: &Limits,
     node: &Handle,
 ) -> Result<Option<Target>, WrapErr>
-    requires stands { (A : List Entry) × StandsValid limits.now (state server.old).tree table.now A }
-    requires within { AreWithin limits.now }
+    requires { (A : List Entry) × StandValid (state server.old).tree table.now A }
     ensures found { IfOk result (λ o. (A : List Entry) →
-        StandsValid limits.now (state server.old).tree table.now A →
+        StandValid (state server.old).tree table.now A →
         TargetFound A table.now.rows.items node.now o) }
     ensures same { OnOk result ((state server.new).tree ≡ (state server.old).tree) }
     ensures watched { Watched (state server.old) (state server.new) result }
@@ -160,7 +158,7 @@ pub fn to_write(
     ensures same { OnOk result ((state server.new).tree ≡ (state server.old).tree) }
     ensures watched { Watched (state server.old) (state server.new) result }
 {
-    let Some(target) = find_target(server, table, limits, file)? else {
+    let Some(target) = find_target(server, table, file)? else {
         return Ok(Err(stat::STALE));
     };
     match no_write(server, table, limits, &target.attr, offset, bytes.len())? {
@@ -185,7 +183,7 @@ pub fn to_set(
     ensures same { OnOk result ((state server.new).tree ≡ (state server.old).tree) }
     ensures watched { Watched (state server.old) (state server.new) result }
 {
-    let Some(target) = find_target(server, table, limits, node)? else {
+    let Some(target) = find_target(server, table, node)? else {
         return Ok(Err(stat::STALE));
     };
     match no_size(server, table, limits, &target.attr, sattr.size)? {

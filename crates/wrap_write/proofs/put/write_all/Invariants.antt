@@ -6,7 +6,9 @@ use Rattle.wrap_write.proofs.put.write_all.Given as goal
 abbrev pub invariant-loop-done : goal.invariant-loop-done
 invariant-loop-done g l = record {
   within : l.done ≤ length l.piece;
-  taken : HasTaken ((goal.FileServer-dyn g (l.fn.server.vtable, l.fn.server.value)).state l.fn.server.value) ((goal.FileServer-dyn g (l.server.vtable, l.server.value)).state l.server.value) l.file l.offset (take l.done l.piece);
+  taken : HasTaken ((goal.FileServer-dyn g (l.fn.server.vtable, l.fn.server.value)).state l.fn.server.value)
+      ((goal.FileServer-dyn g (l.server.vtable, l.server.value)).state l.server.value) l.file l.offset
+      (take l.done l.piece);
 }
 
 abbrev pub decreases-loop-done : goal.decreases-loop-done

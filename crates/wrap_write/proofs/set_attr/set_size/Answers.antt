@@ -8,4 +8,5 @@ pub returns-in_default-clause-sized : goal.returns-in_default-clause-sized
 returns-in_default-clause-sized g c = none_sized _ c.args.node.now c.args.size c.requires c.in_default.is
 
 pub returns-clause-sized : goal.returns-clause-sized
-returns-clause-sized g c t is = c.in_ok-resize.ensures.resized t is ∙ ap (λ o. Some (edited t c.args.node.now (node_sized o))) (sym c.in-Some.is)
+returns-clause-sized g c t is = c.in_ok-resize.ensures.resized t is
+    ∙ ap (λ o. Some (edited t c.args.node.now (node_sized o))) (sym c.in-Some.is)
