@@ -1,8 +1,8 @@
 -- One object becomes another whose names are the same: its node, its row and its entry change alike.
-use Rattle.std.proofs.Common.{◌≡◌, ◌≢◌, inl, inr, ℕ, true, false, List, length, set, Option, Some, slice_get, slice_set, refl, sym, ap, ◌∙◌, subst}
+use Rattle.std.proofs.Common.{◌≡◌, ◌≢◌, inl, inr, ℕ, false, List, length, set, Option, Some, slice_get, slice_set, sym, ap, ◌∙◌, subst}
 use Rattle.std.specs.FinMap.{get}
 use Rattle.std.proofs.lemmas.List.{length-set}
-use Rattle.server_trait.specs.Tree.{Tree, Node, Names, Content, node_at, names_in, edited}
+use Rattle.server_trait.specs.Tree.{Tree, Node, Content, node_at, names_in, edited}
 use Rattle.server_trait.proofs.TreeLaws.{some_and, is_some_and, one_or_not, root-edited, node_at-edited_same, node_at-edited_other}
 use Rattle.server_trait.specs.declared.bench.ConfEntry.{ConfEntry}
 use Rattle.server_trait.specs.declared.bench.ConfTable.{ConfTable}
@@ -40,8 +40,8 @@ content_frame rows rows' (Link a b) c same k = k
 content_frame rows rows' (Dir a names) c same k =
     let m = some_and (names_in c) (SameNames rows names) k in
     is_some_and (SameNames rows' names) m.1
-        (λ name. leads_frame rows rows' (get m.0 name) (row_of name names) (m.2 name)
-        (λ row _ h at. same row.index ∙ at))
+    (λ name. leads_frame rows rows' (get m.0 name) (row_of name names) (m.2 name)
+    (λ row _ h at. same row.index ∙ at))
 
 -- what a row and its node hold is an object
 object_from : (t : Tree) (rows : List ConfEntry) (r : ConfEntry) (g : ℕ) (o : Object) (h : List ℕ) (n : Node) →
@@ -67,7 +67,7 @@ module _ (s : Option Tree) (table : ConfTable) (A : List Entry) (st : Stands s t
       (c : ChangesAlike table.rows.items (entry_at A i) e' node row)
       (tree : (t : Tree) → s ≡ Some t → s' ≡ Some (edited t h node))
       (rows : (r : ConfEntry) → slice_get table.rows.items i ≡ Some r →
-          table'.rows.items ≡ slice_set table.rows.items i (row r)) (by : table'.by_handle ≡ table.by_handle) where
+      table'.rows.items ≡ slice_set table.rows.items i (row r)) (by : table'.by_handle ≡ table.by_handle) where
     abbrev e : Entry
     e = entry_at A i
 
@@ -93,7 +93,7 @@ module _ (s : Option Tree) (table : ConfTable) (A : List Entry) (st : Stands s t
     handles j = elim (one_or_not j i) as (λ _. handle_at table'.rows.items j ≡ handle_at table.rows.items j) [
       | inl e ↦ subst (λ j. handle_at table'.rows.items j ≡ handle_at table.rows.items j) (sym e)
           (handle_of_row table'.rows.items i (row r) row_here ∙ (c.same_row r).handle
-              ∙ sym (handle_of_row table.rows.items i r at.is_row))
+          ∙ sym (handle_of_row table.rows.items i r at.is_row))
       | inr ne ↦ same_handle table.rows.items table'.rows.items j (row_other j ne)
     ]
 
@@ -134,7 +134,7 @@ module _ (s : Option Tree) (table : ConfTable) (A : List Entry) (st : Stands s t
           ((c.same_row r).handle ∙ at.is_handle) node_now
           (c.attr r n (same_attr s table A st i h r n e at))
           (content_frame table.rows.items table'.rows.items e'.object (node n).content handles
-              (c.content n (same_content s table A st i h r n e at)));
+          (c.content n (same_content s table A st i h r n e at)));
     }
 
     -- then they stand for the array with the other entry

@@ -159,7 +159,7 @@ pub fn time_row(table: &mut ConfTable, index: u32, atime: Time, mtime: Time, cti
     requires { index < length table.old.rows.items }
     ensures row { (r : ConfEntry) → slice_get table.old.rows.items index ≡ Some r →
         table.new.rows.items ≡ slice_set table.old.rows.items index
-            (record r { atime = atime; mtime = mtime; ctime = ctime }) }
+        (record r { atime = atime; mtime = mtime; ctime = ctime }) }
     ensures by_handle { table.new.by_handle ≡ table.old.by_handle }
 {
     let row = table.rows[index as usize];

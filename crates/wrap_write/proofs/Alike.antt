@@ -105,7 +105,8 @@ write_alike rows e g t file =
 abbrev pub entry_set : Entry → Sattr → Time → Entry
 entry_set e s t =
     let new = set_attr_of s t (attr_of e) in
-    if is_some s.size then record { generation = e.generation; object = File new (resized (unwrap_or s.size 0) (bytes_of e)) }
+    if is_some s.size then
+    record { generation = e.generation; object = File new (resized (unwrap_or s.size 0) (bytes_of e)) }
     else with_attr new e
 
 module _ (rows : List ConfEntry) (e : Entry) (s : Sattr) (a : NodeAttr) (t : Time) (live : is_null e ≡ false)
@@ -130,7 +131,8 @@ module _ (rows : List ConfEntry) (e : Entry) (s : Sattr) (a : NodeAttr) (t : Tim
 
   by_size : (size : Option ℕ) → (is_some size && is_dir e) ≡ false → (is_some size && is_link e) ≡ false →
       ChangesAlike rows e
-      (if is_some size then record { generation = e.generation; object = File new (resized (unwrap_or size 0) (bytes_of e)) }
+      (if is_some size then
+      record { generation = e.generation; object = File new (resized (unwrap_or size 0) (bytes_of e)) }
       else with_attr new e)
       (λ n. set_on (node_sized size n)) (row_set s t)
   by_size None no_dir no_link = record {

@@ -52,7 +52,7 @@ overwritten_filled o p b = elim (cases_lt (length b) o) [
       ap (λ n. overwritten o p (resized n b)) size
       ∙ ap (λ l. l ++ p ++ drop (o + length p) (resized o b)) (resized_same o (resized o b) (sym long))
       ∙ ap (λ l. resized o b ++ p ++ l)
-          (drop_of_length-le (resized o b) (omega (arith, long)) ∙ sym (drop_of_length-le b (omega arith)))
+      (drop_of_length-le (resized o b) (omega (arith, long)) ∙ sym (drop_of_length-le b (omega arith)))
   | inr long ↦ ap (overwritten o p) (resized_same (max (length b) o) b (omega arith))
 ]
 
@@ -87,12 +87,12 @@ module _ (o k c : ℕ) (p b : List ℕ) (below : k + c ≤ length p) where
   rest : drop (o + k + length next) first ≡ drop (o + length (take (k + c) p)) b
   rest =
       drop-append-drop (o + length (take k p)) b (resized o b ++ take k p) (o + k + length next)
-          (omega (arith, long_first)) (omega (arith, long_front, long_first))
+      (omega (arith, long_first)) (omega (arith, long_front, long_first))
       ∙ ap (λ n. drop n b) (omega (arith, long_next, long_both))
 
   pub overwritten_more : overwritten (o + k) next first ≡ overwritten o (take (k + c) p) b
   overwritten_more =
       ap (λ l. l ++ next ++ drop (o + k + length next) first) front
       ∙ ap (λ l. l ++ drop (o + k + length next) first)
-          (append_assoc (resized o b) (take k p) next ∙ ap (λ l. resized o b ++ l) (sym (take-add k c p)))
+      (append_assoc (resized o b) (take k p) next ∙ ap (λ l. resized o b ++ l) (sym (take-add k c p)))
       ∙ ap (λ l. resized o b ++ take (k + c) p ++ l) rest

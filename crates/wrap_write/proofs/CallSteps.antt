@@ -86,7 +86,7 @@ module _ (limits : Limits) (s : Option Tree) (table : ConfTable) (t : Time) (cal
       pub call_noticed : {M : Type 0} (noticed : M → List Entry → ℕ → M → Type 0) (old new : M) → AreWithin limits →
           (s' : Option Tree) → s' ≡ s →
           ((A : List Entry) → StandValid s' table A → noticed old A o.at.index new) →
-              NoticedAll noticed A old (told A limits cred t call) new
+          NoticedAll noticed A old (told A limits cred t call) new
       call_noticed noticed old new within s' same note =
           subst (λ l. NoticedAll noticed A old l new) (sym told_one)
           (new, note A (subst (λ s. StandValid s table A) (sym same) (stand_valid limits s table A within k)), refl)
@@ -115,11 +115,11 @@ module _ (limits : Limits) (s : Option Tree) (table : ConfTable) (t : Time) (cal
         -- the call answers with the object's attributes
         pub call_answers : ((A B : List Entry) → answer A B limits call ≡ results.Attr (fattr B (at A node))) →
             (f : Fattr) → ((A : List Entry) → StandValid s' table' A → f ≡ fattr A o.at.index) →
-                results.Attr f ≡ result_of A limits cred t call
+            results.Attr f ≡ result_of A limits cred t call
         call_answers shows f shown =
             ap results.Attr
-                (shown (array_after A limits cred t call) again
-                ∙ ap (fattr (array_after A limits cred t call)) (sym at_index))
+            (shown (array_after A limits cred t call) again
+            ∙ ap (fattr (array_after A limits cred t call)) (sym at_index))
             ∙ sym (shows A (array_after A limits cred t call))
             ∙ sym (answers.answered A limits cred t call c.none)
 
@@ -128,6 +128,6 @@ module _ (limits : Limits) (s : Option Tree) (table : ConfTable) (t : Time) (cal
         ((A : List Entry) (cred : Cred) → changes A cred t call ≡ to_be (at A node) (entry A) ∷ []) →
         AreWithin limits → is_time t ≡ true → call_fits call ≡ true →
         (s' : Option Tree) (table' : ConfTable) → (A : List Entry) → StandsValid limits s table A →
-            Stands s' table' (set A o.at.index (entry A)) → (B : List Entry) × StandValid s' table' B
+        Stands s' table' (set A o.at.index (entry A)) → (B : List Entry) × StandValid s' table' B
     call_again entry one within moment fits s' table' A k stands =
         (array_after A limits nobody t call, again entry one A nobody k within moment fits s' table' stands)

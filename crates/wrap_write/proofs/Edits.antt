@@ -14,18 +14,18 @@ use Rattle.wrap_write.specs.Puts.{CanHold}
 insert_same : (m : ByBytes Node) (h : List ℕ) (n : Node) → get m h ≡ Some n → insert m h n ≡ m
 insert_same m h n is =
     same_answers (insert m h n) m (λ q. elim (bytes_or_not q h) as (λ _. get (insert m h n) q ≡ get m q) [
-  | inl e ↦ subst (λ q. get (insert m h n) q ≡ get m q) (sym e) (get-insert_same m h n ∙ sym is)
-  | inr ne ↦ get-insert_other m h n q ne
-])
+      | inl e ↦ subst (λ q. get (insert m h n) q ≡ get m q) (sym e) (get-insert_same m h n ∙ sym is)
+      | inr ne ↦ get-insert_other m h n q ne
+    ])
 
 -- of two nodes the later stays
 insert_twice : (m : ByBytes Node) (h : List ℕ) (a b : Node) → insert (insert m h a) h b ≡ insert m h b
 insert_twice m h a b = same_answers (insert (insert m h a) h b) (insert m h b)
     (λ q. elim (bytes_or_not q h) as (λ _. get (insert (insert m h a) h b) q ≡ get (insert m h b) q) [
-  | inl e ↦ subst (λ q. get (insert (insert m h a) h b) q ≡ get (insert m h b) q) (sym e)
-      (get-insert_same (insert m h a) h b ∙ sym (get-insert_same m h b))
-  | inr ne ↦ get-insert_other (insert m h a) h b q ne ∙ get-insert_other m h a q ne ∙ sym (get-insert_other m h b q ne)
-])
+      | inl e ↦ subst (λ q. get (insert (insert m h a) h b) q ≡ get (insert m h b) q) (sym e)
+          (get-insert_same (insert m h a) h b ∙ sym (get-insert_same m h b))
+      | inr ne ↦ get-insert_other (insert m h a) h b q ne ∙ get-insert_other m h a q ne ∙ sym (get-insert_other m h b q ne)
+    ])
 
 module _ (t : Tree) (h : List ℕ) (n : Node) (is : node_at t h ≡ Some n) where
   pub edited_same : (f : Node → Node) → f n ≡ n → edited t h f ≡ t

@@ -52,9 +52,9 @@ write_suits limits all l o n within short big full = elim (cases_Bool (n == 0)) 
   | inr some ↦
       let same : size_after o n l ≡ max l (o + n) = cond-false (n == 0) l (max l (o + n)) some in
       let small = ltb-false file_limit (o + n)
-          (other (nat_lt 0 n) (nat_lt file_limit (o + n)) (some_more n some) big) in
+      (other (nat_lt 0 n) (nat_lt file_limit (o + n)) (some_more n some) big) in
       let left = ltb-false limits.t (all + max l (o + n) - l)
-          (other (nat_lt 0 n) (nat_lt limits.t (all + max l (o + n) - l)) (some_more n some) full) in
+      (other (nat_lt 0 n) (nat_lt limits.t (all + max l (o + n) - l)) (some_more n some) full) in
       record { space = omega (arith, same, left); small = omega (arith, same, small, short) }
 ]
 
@@ -94,10 +94,10 @@ module _ (limits : Limits) (s : Option Tree) (table : ConfTable) (A : List Entry
         CanHold server h (bytes_of e) size
     holds file size suits =
         let content = (file_parts table.rows.items e file).content at.1.content
-            (same_content s table A k.stands i h at.0 at.1 e at.2) in
+        (same_content s table A k.stands i h at.0 at.1 e at.2) in
         let bytes : bytes_at k.stands.tree h ≡ Some (bytes_of e) =
-            and_then (λ (n : Node). bytes_in n.content) (node_at k.stands.tree h) at.1 at.2.is_node
-            ∙ ap bytes_in content in
+        and_then (λ (n : Node). bytes_in n.content) (node_at k.stands.tree h) at.1 at.2.is_node
+        ∙ ap bytes_in content in
         let all = used_agrees limits s table A k.stands k.valid in
         let few = nodes_few limits s table A k.stands k.valid in
         let least = used_more k.stands.tree h (bytes_of e) bytes in
@@ -118,6 +118,8 @@ module _ (limits : Limits) (s : Option Tree) (table : ConfTable) (A : List Entry
     pub sized : (size : Option ℕ) → AllFalse (size_tests A limits e size) → CanSize server h size
     sized None none = is_some_and (λ t. IsSome (node_at t h)) (same ∙ k.stands.has_tree) there
     sized (Some size) none =
-        let left = ltb-false limits.t (used A + size - length (bytes_of e)) none.1.1.1.0 in
-        (bytes_of e, holds (file_is e alive none.0 none.1.0) size
-            (record { space = omega (arith, left); small = ltb-false file_limit size none.1.1.0 }))
+        let left = ltb-false limits.t (used A + size - length (bytes_of e)) none.1.1.1.0 in (
+          bytes_of e,
+          holds (file_is e alive none.0 none.1.0) size
+              (record { space = omega (arith, left); small = ltb-false file_limit size none.1.1.0 }),
+        )

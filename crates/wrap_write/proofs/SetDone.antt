@@ -51,20 +51,20 @@ module _ (limits : Limits) (s : Option Tree) (table : ConfTable) (A : List Entry
   pub set_stands : (s1 s' : Option Tree) (table' : ConfTable) (t : Time) → s1 ≡ s →
       ((t : Tree) → s1 ≡ Some t → s' ≡ Some (edited t o.at.handle (node_set sattr o.attr))) →
       ((r : ConfEntry) → slice_get table.rows.items o.at.index ≡ Some r →
-          table'.rows.items ≡ slice_set table.rows.items o.at.index (row_set sattr t r)) →
+      table'.rows.items ≡ slice_set table.rows.items o.at.index (row_set sattr t r)) →
       table'.by_handle ≡ table.by_handle → Stands s' table' (set A o.at.index (entry_set e sattr t))
   set_stands s1 s' table' t same put rows by =
       stands_alike s table A k.stands o.at.index o.at.handle c.target.live s' table' (entry_set e sattr t)
-          (node_set sattr o.attr) (row_set sattr t)
+      (node_set sattr o.attr) (row_set sattr t)
       (set_alike table.rows.items e sattr o.attr t (alive limits s table A k node o c.target) c.target.seen none.0
-          none.1.0) (λ t is. put t (same ∙ is)) rows by
+      none.1.0) (λ t is. put t (same ∙ is)) rows by
 
 -- THE WHOLE CALL
 
 module _ (limits : Limits) (s : Option Tree) (table : ConfTable) (t : Time) (node : List ℕ) (sattr : Sattr)
     (r : Result Target Stat)
     (found : (A : List Entry) → StandsValid limits s table A →
-        CallFound A limits table.rows.items (set_attr node sattr) node r) (o : Target) (is : r ≡ Ok o) where
+    CallFound A limits table.rows.items (set_attr node sattr) node r) (o : Target) (is : r ≡ Ok o) where
   abbrev entry : List Entry → Entry
   entry A = entry_set (entry_at A (at A node)) sattr t
 
@@ -87,13 +87,13 @@ module _ (limits : Limits) (s : Option Tree) (table : ConfTable) (t : Time) (nod
   module _ (s1 s' : Option Tree) (table' : ConfTable) (same : s1 ≡ s)
       (put : (t : Tree) → s1 ≡ Some t → s' ≡ Some (edited t o.at.handle (node_set sattr o.attr)))
       (rows : (r : ConfEntry) → slice_get table.rows.items o.at.index ≡ Some r →
-          table'.rows.items ≡ slice_set table.rows.items o.at.index (row_set sattr t r))
+      table'.rows.items ≡ slice_set table.rows.items o.at.index (row_set sattr t r))
       (by : table'.by_handle ≡ table.by_handle) where
     stands_now : (A : List Entry) (k : StandsValid limits s table A) → Stands s' table' (set A o.at.index (entry A))
     stands_now A k =
         let c = call_at A k in
         subst (λ i. Stands s' table' (set A o.at.index (entry_set (entry_at A i) sattr t)))
-            (sym (at-live A node o.at.index c.target.is_index))
+        (sym (at-live A node o.at.index c.target.is_index))
         (set_stands limits s table A k node sattr o c s1 s' table' t same put rows by)
 
     -- the row has its handle still
@@ -101,10 +101,10 @@ module _ (limits : Limits) (s : Option Tree) (table : ConfTable) (t : Time) (nod
         handle_at table'.rows.items o.at.index ≡ Some o.at.handle
     still_live k =
         let r = and_then_some (λ (r : ConfEntry). r.handle) (slice_get table.rows.items o.at.index) o.at.handle
-            (row_there k) in
+        (row_there k) in
         handle_of_row table'.rows.items o.at.index (row_set sattr t r.0)
-            (ap (λ l. slice_get l o.at.index) (rows r.0 r.1)
-            ∙ slice_get-set_same table.rows.items o.at.index (row_set sattr t r.0) r.0 r.1) ∙ r.2
+        (ap (λ l. slice_get l o.at.index) (rows r.0 r.1)
+        ∙ slice_get-set_same table.rows.items o.at.index (row_set sattr t r.0) r.0 r.1) ∙ r.2
 
     -- server and table stand for a valid array, that after the call
     pub set_again : AreWithin limits → is_time t ≡ true → call_fits (set_attr node sattr) ≡ true →
@@ -121,10 +121,10 @@ module _ (limits : Limits) (s : Option Tree) (table : ConfTable) (t : Time) (nod
     pub set_answers : AreWithin limits → is_time t ≡ true → call_fits (set_attr node sattr) ≡ true →
         (A : List Entry) (cred : Cred) → StandsValid limits s table A →
         (f : Fattr) → ((A : List Entry) → StandValid s' table' A → f ≡ fattr A o.at.index) →
-            results.Attr f ≡ result_of A limits cred t (set_attr node sattr)
+        results.Attr f ≡ result_of A limits cred t (set_attr node sattr)
     set_answers within moment fits A cred k f shown =
         call_answers limits s table t (set_attr node sattr) node r found o is entry
-            (λ A cred. refl) A cred k within moment fits s' table' (stands_now A k) (λ A B. refl) f shown
+        (λ A cred. refl) A cred k within moment fits s' table' (stands_now A k) (λ A B. refl) f shown
 
   -- its object is told
   pub set_told : (A : List Entry) (cred : Cred) → StandsValid limits s table A → (old new : List ℕ) →
@@ -135,6 +135,6 @@ module _ (limits : Limits) (s : Option Tree) (table : ConfTable) (t : Time) (nod
       {M : Type 0} (noticed : M → List Entry → ℕ → M → Type 0) (old new : M) → AreWithin limits → (s' : Option Tree) →
       s' ≡ s →
       ((A : List Entry) → StandValid s' table A → noticed old A o.at.index new) →
-          NoticedAll noticed A old (told A limits cred t (set_attr node sattr)) new
+      NoticedAll noticed A old (told A limits cred t (set_attr node sattr)) new
   set_noticed A cred k = call_noticed limits s table t (set_attr node sattr) node r found o is entry
       (λ A cred. refl) A cred k

@@ -47,7 +47,7 @@ module _ (s : Server) (h : List ℕ) (size : Option ℕ) (can : CanSize s h size
     all_set s2 mode uid gid mode' uid' gid' m u g set t is =
         set (edited t h (node_sized size)) (sized t is)
         ∙ ap Some (edited_twice t h k.node (node_of t is) (node_sized size) (with_attr mode uid gid)
-            (λ n. with_attr mode' uid' gid' (node_sized size n))
+        (λ n. with_attr mode' uid' gid' (node_sized size n))
         (ap (λ x. with_attr x uid gid (node_sized size k.node)) m
-            ∙ ap (λ x. with_attr mode' x gid (node_sized size k.node)) u
-            ∙ ap (λ x. with_attr mode' uid' x (node_sized size k.node)) g))
+        ∙ ap (λ x. with_attr mode' x gid (node_sized size k.node)) u
+        ∙ ap (λ x. with_attr mode' uid' x (node_sized size k.node)) g))

@@ -56,9 +56,9 @@ module _ (A : List Entry) (limits : Limits) where
         (write_tests A limits (entry_at A o.at.index) offset (length bytes))
     write_refusals offset bytes =
         ap (λ b. if b then Some STALE else first_of
-            (write_tests A limits (entry_at A (at A node)) offset (length bytes))) fresh
+        (write_tests A limits (entry_at A (at A node)) offset (length bytes))) fresh
         ∙ ap (λ i. first_of (write_tests A limits (entry_at A i) offset (length bytes)))
-            (at-live A node o.at.index k.is_index)
+        (at-live A node o.at.index k.is_index)
 
     pub set_refusals : (sattr : Sattr) →
         first_of (refusals A limits (set_attr node sattr)) ≡ first_of
@@ -71,7 +71,8 @@ module _ (A : List Entry) (limits : Limits) where
   pub write_stale : (file : List ℕ) (offset : ℕ) (bytes : List ℕ) → is_stale A file ≡ true →
       first_of (refusals A limits (write file offset bytes)) ≡ Some STALE
   write_stale file offset bytes is =
-      ap (λ b. if b then Some STALE else first_of (write_tests A limits (entry_at A (at A file)) offset (length bytes))) is
+      ap (λ b. if b then Some STALE else first_of
+      (write_tests A limits (entry_at A (at A file)) offset (length bytes))) is
 
   pub set_stale : (node : List ℕ) (sattr : Sattr) → is_stale A node ≡ true →
       first_of (refusals A limits (set_attr node sattr)) ≡ Some STALE
@@ -92,9 +93,10 @@ module _ (limits : Limits) (within : AreWithin limits) (s : Option Tree) (table 
   module _ (o : Target) (is : r ≡ Some o) (s' : Option Tree) (same : s' ≡ s) (call : Call)
       (tests : List Entry → Entry → List Refusal)
       (are : (A : List Entry) → IsTarget A table.rows.items node o →
-          first_of (refusals A limits call) ≡ first_of (tests A (entry_at A o.at.index)))
+      first_of (refusals A limits call) ≡ first_of (tests A (entry_at A o.at.index)))
       (q : Option Stat)
-      (tested : (A : List Entry) (e : Entry) → StandsValid limits s' table A → IsSeen e o.attr → q ≡ first_of (tests A e))
+      (tested : (A : List Entry) (e : Entry) → StandsValid limits s' table A → IsSeen e o.attr →
+      q ≡ first_of (tests A e))
       (A : List Entry) (k : StandsValid limits s table A) where
     target : IsTarget A table.rows.items node o
     target = subst (TargetFound A table.rows.items node) is (target_found A k)

@@ -54,7 +54,7 @@ module _ (limits : Limits) (s : Option Tree) (table : ConfTable) (A : List Entry
     holds limits s table A k file o c.target server same room is_file_there
         (size_after offset (length bytes) (length (bytes_of e)))
         (write_suits limits (used A) (length (bytes_of e)) offset (length bytes) k.valid.room
-            (short limits s table A k file o c.target none.1.0) none.1.1.0 none.1.1.1.0),
+        (short limits s table A k file o c.target none.1.0) none.1.1.0 none.1.1.1.0),
     sym (c.target.seen.size none.0),
   )
 
@@ -62,12 +62,12 @@ module _ (limits : Limits) (s : Option Tree) (table : ConfTable) (A : List Entry
   pub write_stands : (s1 s' : Option Tree) (table' : ConfTable) (t : Time) → s1 ≡ s →
       ((t : Tree) → s1 ≡ Some t → s' ≡ Some (edited t o.at.handle (tree.with_bytes (written offset bytes)))) →
       ((r : ConfEntry) → slice_get table.rows.items o.at.index ≡ Some r →
-          table'.rows.items ≡ slice_set table.rows.items o.at.index (touched t r)) →
+      table'.rows.items ≡ slice_set table.rows.items o.at.index (touched t r)) →
       table'.by_handle ≡ table.by_handle →
-          Stands s' table' (set A o.at.index (machine.with_bytes (written offset bytes) t e))
+      Stands s' table' (set A o.at.index (machine.with_bytes (written offset bytes) t e))
   write_stands s1 s' table' t same put rows by =
       stands_alike s table A k.stands o.at.index o.at.handle c.target.live s' table'
-          (machine.with_bytes (written offset bytes) t e) (tree.with_bytes (written offset bytes)) (touched t)
+      (machine.with_bytes (written offset bytes) t e) (tree.with_bytes (written offset bytes)) (touched t)
       (write_alike table.rows.items e (written offset bytes) t is_file_there) (λ t is. put t (same ∙ is)) rows by
 
 -- THE WHOLE CALL
@@ -75,7 +75,7 @@ module _ (limits : Limits) (s : Option Tree) (table : ConfTable) (A : List Entry
 module _ (limits : Limits) (s : Option Tree) (table : ConfTable) (t : Time) (file : List ℕ) (offset : ℕ)
     (bytes : List ℕ) (r : Result Target Stat)
     (found : (A : List Entry) → StandsValid limits s table A →
-        CallFound A limits table.rows.items (write file offset bytes) file r) (o : Target) (is : r ≡ Ok o) where
+    CallFound A limits table.rows.items (write file offset bytes) file r) (o : Target) (is : r ≡ Ok o) where
   abbrev entry : List Entry → Entry
   entry A = machine.with_bytes (written offset bytes) t (entry_at A (at A file))
 
@@ -87,20 +87,20 @@ module _ (limits : Limits) (s : Option Tree) (table : ConfTable) (t : Time) (fil
   pub put_asked : (server : Server) → server.tree ≡ s → (most : ServerLimits) → server.limits ≡ most →
       HasRoom limits most → ((A : List Entry) × StandsValid limits s table A) →
       (b : List ℕ) × CanHold server o.at.handle b (size_after offset (length bytes) (length b))
-          × (length b ≡ o.attr.size)
+      × (length b ≡ o.attr.size)
   put_asked server same most limited room k = can_put limits s table k.0 k.1 file offset bytes o
       (call_at k.0 k.1) server same (subst (HasRoom limits) (sym limited) room)
 
   module _ (s1 s' : Option Tree) (table' : ConfTable) (same : s1 ≡ s)
       (put : (t : Tree) → s1 ≡ Some t → s' ≡ Some (edited t o.at.handle (tree.with_bytes (written offset bytes))))
       (rows : (r : ConfEntry) → slice_get table.rows.items o.at.index ≡ Some r →
-          table'.rows.items ≡ slice_set table.rows.items o.at.index (touched t r))
+      table'.rows.items ≡ slice_set table.rows.items o.at.index (touched t r))
       (by : table'.by_handle ≡ table.by_handle) where
     stands_now : (A : List Entry) (k : StandsValid limits s table A) → Stands s' table' (set A o.at.index (entry A))
     stands_now A k =
         let c = call_at A k in
         subst (λ i. Stands s' table' (set A o.at.index (machine.with_bytes (written offset bytes) t (entry_at A i))))
-            (sym (at-live A file o.at.index c.target.is_index))
+        (sym (at-live A file o.at.index c.target.is_index))
         (write_stands limits s table A k file offset bytes o c s1 s' table' t same put rows by)
 
     -- server and table stand for a valid array, that after the call
@@ -118,10 +118,10 @@ module _ (limits : Limits) (s : Option Tree) (table : ConfTable) (t : Time) (fil
     pub written_answers : AreWithin limits → is_time t ≡ true → call_fits (write file offset bytes) ≡ true →
         (A : List Entry) (cred : Cred) → StandsValid limits s table A →
         (f : Fattr) → ((A : List Entry) → StandValid s' table' A → f ≡ fattr A o.at.index) →
-            results.Attr f ≡ result_of A limits cred t (write file offset bytes)
+        results.Attr f ≡ result_of A limits cred t (write file offset bytes)
     written_answers within moment fits A cred k f shown =
         call_answers limits s table t (write file offset bytes) file r found o is entry
-            (λ A cred. refl) A cred k within moment fits s' table' (stands_now A k) (λ A B. refl) f shown
+        (λ A cred. refl) A cred k within moment fits s' table' (stands_now A k) (λ A B. refl) f shown
 
   -- its file is told
   pub written_told : (A : List Entry) (cred : Cred) → StandsValid limits s table A → (old new : List ℕ) →
@@ -133,6 +133,6 @@ module _ (limits : Limits) (s : Option Tree) (table : ConfTable) (t : Time) (fil
       {M : Type 0} (noticed : M → List Entry → ℕ → M → Type 0) (old new : M) → AreWithin limits → (s' : Option Tree) →
       s' ≡ s →
       ((A : List Entry) → StandValid s' table A → noticed old A o.at.index new) →
-          NoticedAll noticed A old (told A limits cred t (write file offset bytes)) new
+      NoticedAll noticed A old (told A limits cred t (write file offset bytes)) new
   written_noticed A cred k = call_noticed limits s table t (write file offset bytes) file r found o is entry
       (λ A cred. refl) A cred k

@@ -77,7 +77,7 @@ module _ (old : Server) (h b : List ℕ) (o : ℕ) (p : List ℕ) (c : CanHold o
     holds = holds_edited old now h b (max (length b) (o + length p)) c (overwritten o (take done p))
         (k.tree c.tree c.has_tree) k.limits
         (max (length part) (o + done + length (drop done p)))
-            (let rest = length-drop done p in omega (arith, long, rest, below))
+        (let rest = length-drop done p in omega (arith, long, rest, below))
 
     pub still_has : HasTree now
     still_has = ap is_some (k.tree c.tree c.has_tree)
@@ -89,9 +89,9 @@ module _ (old : Server) (h b : List ℕ) (o : ℕ) (p : List ℕ) (c : CanHold o
         let w = subst (λ l. Write now h (o + done) l (Err e) next) (take_rest p done) whole in
         let t1 = edited c.tree h (with_bytes (overwritten o (take done p))) in
         failed {T = ℕ} (Wrote t1 h (o + done) (drop done p))
-            (WriteErr now.limits h (o + done) (length (drop done p)) t1) t1 e next.tree
+        (WriteErr now.limits h (o + done) (length (drop done p)) t1) t1 e next.tree
         (no_error now h part (o + done) (length (drop done p)) holds (omega (arith, long)) t1
-            (k.tree c.tree c.has_tree)) (w.tree t1 (k.tree c.tree c.has_tree))
+        (k.tree c.tree c.has_tree)) (w.tree t1 (k.tree c.tree c.has_tree))
 
     module _ (count : ℕ) (next : Server)
         (whole : Write now h (o + done) (take (length p - done) (drop done p)) (Ok count) next) where
@@ -115,8 +115,8 @@ module _ (old : Server) (h b : List ℕ) (o : ℕ) (p : List ℕ) (c : CanHold o
         tree = λ t is.
             (wrote t is).after
             ∙ ap Some (bytes_twice t h b (bytes_there old h b (max (length b) (o + length p)) c t is)
-                (overwritten o (take done p)) (overwritten (o + done) (take count (drop done p)))
-                (overwritten o (take (done + count) p))
+            (overwritten o (take done p)) (overwritten (o + done) (take count (drop done p)))
+            (overwritten o (take (done + count) p))
             (overwritten_more o done count p b most_taken));
         limits = w.limits ∙ k.limits;
         faults = w.faults ∙ k.faults;
@@ -128,12 +128,12 @@ module _ (old : Server) (h b : List ℕ) (o : ℕ) (p : List ℕ) (c : CanHold o
 pub no_gap : (s : Server) (h : List ℕ) (size o : ℕ) →
     ((b : List ℕ) × CanHold s h b (max (length b) o) × (length b ≡ size)) → o ≤ size →
     (t : Tree) (b : List ℕ) → s.tree ≡ Some t → bytes_at t h ≡ Some b →
-        s.tree ≡ Some (edited t h (with_bytes (resized (max (length b) o))))
+    s.tree ≡ Some (edited t h (with_bytes (resized (max (length b) o))))
 no_gap s h size o k within t b is at =
     let same = ap length (some_same (bytes_there s h k.0 (max (length k.0) o) k.1 t is) at) in
     let long = k.2 in
     is ∙ ap Some (sym (bytes_same t h b at (resized (max (length b) o))
-        (resized_same (max (length b) o) b (omega (arith, same, long, within)))))
+    (resized_same (max (length b) o) b (omega (arith, same, long, within)))))
 
 -- no bytes change nothing
 pub nothing_put : (s : Server) (h : List ℕ) (size o : ℕ) (p : List ℕ) →
@@ -141,7 +141,7 @@ pub nothing_put : (s : Server) (h : List ℕ) (size o : ℕ) (p : List ℕ) →
     (t : Tree) → s.tree ≡ Some t → s.tree ≡ Some (edited t h (with_bytes (written o p)))
 nothing_put s h size o p k none t is =
     is ∙ ap Some (sym (bytes_same t h k.0 (bytes_there s h k.0 (size_after o (length p) (length k.0)) k.1 t is)
-        (written o p) (cond-true (length p == 0) k.0 (overwritten o p k.0) none)))
+    (written o p) (cond-true (length p == 0) k.0 (overwritten o p k.0) none)))
 
 module _ (s : Server) (h : List ℕ) (size o : ℕ) (p : List ℕ)
     (k : (b : List ℕ) × CanHold s h b (size_after o (length p) (length b)) × (length b ≡ size))
@@ -161,7 +161,7 @@ module _ (s : Server) (h : List ℕ) (size o : ℕ) (p : List ℕ)
 
   module _ (s1 : Server) (limits : s1.limits ≡ s.limits)
       (filled : (t : Tree) (b : List ℕ) → s.tree ≡ Some t → bytes_at t h ≡ Some b →
-          s1.tree ≡ Some (edited t h (with_bytes (resized (max (length b) o))))) where
+      s1.tree ≡ Some (edited t h (with_bytes (resized (max (length b) o))))) where
     -- then all of the piece can be put
     pub can_write : (b : List ℕ) × CanHold s1 h b (max (length b) (o + length p)) × (o ≤ length b)
     can_write =

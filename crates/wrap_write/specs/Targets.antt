@@ -41,7 +41,7 @@ write_tests A limits e offset count =
     (is_link e answers ACCES) ∷
     (nat_lt 0 count && nat_lt file_limit (offset + count) answers FBIG) ∷
     (nat_lt 0 count && no_room A limits (length (bytes_of e)) (max (length (bytes_of e)) (offset + count)) answers
-        NOSPC) ∷ []
+    NOSPC) ∷ []
 
 -- the tests of an entry that gets a size, if one is given
 abbrev pub size_tests : List Entry → Limits → Entry → Option ℕ → List Refusal

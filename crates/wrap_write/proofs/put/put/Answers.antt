@@ -19,4 +19,4 @@ pub returns-clause-put : goal.returns-clause-put
 returns-clause-put g c = all_put _ c.args.file.now c.args.size c.args.offset c.args.piece.now c.requires
     (sym c.if-is_empty.ensures)
     ((goal.FileServer-dyn g (c.fill.new.server.vtable, c.fill.new.server.value)).state c.fill.new.server.value)
-        c.in_ok-fill.ensures.watched.limits c.in_ok-fill.ensures.filled _ c.in_ok-write_all.ensures.put
+    c.in_ok-fill.ensures.watched.limits c.in_ok-fill.ensures.filled _ c.in_ok-write_all.ensures.put

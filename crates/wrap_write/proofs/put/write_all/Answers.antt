@@ -18,15 +18,15 @@ broken-requires g c =
     write_fails _ c.args.file.now c.requires.0 c.args.offset c.args.piece.now c.requires.1 c.requires.2 _
     c.loop-done.done c.loop-done-test.true c.loop-done.invariant.taken
     c.in-Err.error
-        ((goal.FileServer-dyn g (c.write.new.self.vtable, c.write.new.self.value)).state c.write.new.self.value)
-        c.in-Err.ensures
+    ((goal.FileServer-dyn g (c.write.new.self.vtable, c.write.new.self.value)).state c.write.new.self.value)
+    c.in-Err.ensures
 
 pub loop-done-smaller : goal.loop-done-smaller
 loop-done-smaller g c =
     let some = some_taken _ c.args.file.now c.requires.0 c.args.offset c.args.piece.now c.requires.1 c.requires.2 _
-        c.loop-done.done c.loop-done-test.true c.loop-done.invariant.taken c.in-Ok.count
-        ((goal.FileServer-dyn g (c.write.new.self.vtable, c.write.new.self.value)).state c.write.new.self.value)
-        c.in-Ok.ensures in
+    c.loop-done.done c.loop-done-test.true c.loop-done.invariant.taken c.in-Ok.count
+    ((goal.FileServer-dyn g (c.write.new.self.vtable, c.write.new.self.value)).state c.write.new.self.value)
+    c.in-Ok.ensures in
     omega (arith, some, c.loop-done-test.true)
 
 pub loop-done-preserved : goal.loop-done-preserved

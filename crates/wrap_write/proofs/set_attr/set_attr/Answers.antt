@@ -33,15 +33,15 @@ set_node-requires g c =
     size_asked c.args.limits.now _ c.args.table.now c.args.time c.args.node.now c.args.sattr.now
     c.in_ok-target.field-0 c.in_ok-target.ensures.found c.in-Ok.target c.in-Ok.is
     _ (c.in_ok-modify.ensures.tree ∙ c.in_ok-target.ensures.same) _
-        (c.in_ok-modify.ensures.watched.limits ∙ c.in_ok-target.ensures.watched.limits) c.requires.room
-        c.requires.stands
+    (c.in_ok-modify.ensures.watched.limits ∙ c.in_ok-target.ensures.watched.limits) c.requires.room
+    c.requires.stands
 
 pub fattr_at-requires-clause-stands : goal.fattr_at-requires-clause-stands
 fattr_at-requires-clause-stands g c =
     set_again c.args.limits.now _ c.args.table.now c.args.time c.args.node.now c.args.sattr.now c.in_ok-target.field-0
     c.in_ok-target.ensures.found c.in-Ok.target c.in-Ok.is
     _ _ c.set_times.new.table (c.in_ok-modify.ensures.tree ∙ c.in_ok-target.ensures.same) c.in_ok-set_node.ensures.set
-        c.set_times.ensures.row c.set_times.ensures.by_handle
+    c.set_times.ensures.row c.set_times.ensures.by_handle
     c.requires.within c.requires.time c.requires.fits c.requires.stands
 
 pub fattr_at-requires-clause-live : goal.fattr_at-requires-clause-live
@@ -49,14 +49,14 @@ fattr_at-requires-clause-live g c =
     still_live c.args.limits.now _ c.args.table.now c.args.time c.args.node.now c.args.sattr.now
     c.in_ok-target.field-0 c.in_ok-target.ensures.found c.in-Ok.target c.in-Ok.is
     _ _ c.set_times.new.table (c.in_ok-modify.ensures.tree ∙ c.in_ok-target.ensures.same) c.in_ok-set_node.ensures.set
-        c.set_times.ensures.row c.set_times.ensures.by_handle c.requires.stands
+    c.set_times.ensures.row c.set_times.ensures.by_handle c.requires.stands
 
 pub returns-clause-answers : goal.returns-clause-answers
 returns-clause-answers g c A cred k =
     set_answers c.args.limits.now _ c.args.table.now c.args.time c.args.node.now c.args.sattr.now
     c.in_ok-target.field-0 c.in_ok-target.ensures.found c.in-Ok.target c.in-Ok.is
     _ _ c.set_times.new.table (c.in_ok-modify.ensures.tree ∙ c.in_ok-target.ensures.same) c.in_ok-set_node.ensures.set
-        c.set_times.ensures.row c.set_times.ensures.by_handle
+    c.set_times.ensures.row c.set_times.ensures.by_handle
     c.requires.within c.requires.time c.requires.fits A cred k c.in_ok-fattr.fattr c.in_ok-fattr.ensures.fattr
 
 pub returns-clause-stands : goal.returns-clause-stands
@@ -64,7 +64,7 @@ returns-clause-stands g c A cred k =
     set_now c.args.limits.now _ c.args.table.now c.args.time c.args.node.now c.args.sattr.now c.in_ok-target.field-0
     c.in_ok-target.ensures.found c.in-Ok.target c.in-Ok.is
     _ _ c.set_times.new.table (c.in_ok-modify.ensures.tree ∙ c.in_ok-target.ensures.same) c.in_ok-set_node.ensures.set
-        c.set_times.ensures.row c.set_times.ensures.by_handle
+    c.set_times.ensures.row c.set_times.ensures.by_handle
     A cred k _ c.in_ok-fattr.ensures.same
 
 pub returns-clause-told : goal.returns-clause-told
@@ -78,4 +78,4 @@ returns-clause-noticed g c A cred k =
     set_noticed c.args.limits.now _ c.args.table.now c.args.time c.args.node.now c.args.sattr.now
     c.in_ok-target.field-0 c.in_ok-target.ensures.found c.in-Ok.target c.in-Ok.is
     A cred k g.M.Modify.noticed c.args.saver.now c.modify.new.self c.requires.within _ c.in_ok-target.ensures.same
-        c.in_ok-modify.ensures.noticed
+    c.in_ok-modify.ensures.noticed

@@ -9,4 +9,4 @@ pub returns-clause-set : goal.returns-clause-set
 returns-clause-set g c =
     all_set _ c.args.target.now.at.handle c.args.sattr.now.size c.requires _ c.in_ok-set_size.ensures.sized
     _ _ _ _ _ _ _ c.unwrap_or-mode.ensures c.unwrap_or-uid.ensures c.unwrap_or-gid.ensures
-        c.in_ok-set_owners.ensures.set
+    c.in_ok-set_owners.ensures.set

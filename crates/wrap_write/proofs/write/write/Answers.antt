@@ -33,15 +33,15 @@ put-requires g c =
     put_asked c.args.limits.now _ c.args.table.now c.args.time c.args.file.now c.args.offset c.args.bytes.now
     c.in_ok-target.field-0 c.in_ok-target.ensures.found c.in-Ok.target c.in-Ok.is
     _ (c.in_ok-modify.ensures.tree ∙ c.in_ok-target.ensures.same) _
-        (c.in_ok-modify.ensures.watched.limits ∙ c.in_ok-target.ensures.watched.limits) c.requires.room
-        c.requires.stands
+    (c.in_ok-modify.ensures.watched.limits ∙ c.in_ok-target.ensures.watched.limits) c.requires.room
+    c.requires.stands
 
 pub fattr_at-requires-clause-stands : goal.fattr_at-requires-clause-stands
 fattr_at-requires-clause-stands g c =
     written_again c.args.limits.now _ c.args.table.now c.args.time c.args.file.now c.args.offset c.args.bytes.now
     c.in_ok-target.field-0 c.in_ok-target.ensures.found c.in-Ok.target c.in-Ok.is
     _ _ c.touch_row.new.table (c.in_ok-modify.ensures.tree ∙ c.in_ok-target.ensures.same) c.in_ok-put.ensures.put
-        c.touch_row.ensures.row c.touch_row.ensures.by_handle
+    c.touch_row.ensures.row c.touch_row.ensures.by_handle
     c.requires.within c.requires.time c.requires.fits c.requires.stands
 
 pub returns-clause-answers : goal.returns-clause-answers
@@ -49,7 +49,7 @@ returns-clause-answers g c A cred k =
     written_answers c.args.limits.now _ c.args.table.now c.args.time c.args.file.now c.args.offset c.args.bytes.now
     c.in_ok-target.field-0 c.in_ok-target.ensures.found c.in-Ok.target c.in-Ok.is
     _ _ c.touch_row.new.table (c.in_ok-modify.ensures.tree ∙ c.in_ok-target.ensures.same) c.in_ok-put.ensures.put
-        c.touch_row.ensures.row c.touch_row.ensures.by_handle
+    c.touch_row.ensures.row c.touch_row.ensures.by_handle
     c.requires.within c.requires.time c.requires.fits A cred k c.in_ok-fattr.fattr c.in_ok-fattr.ensures.fattr
 
 pub returns-clause-stands : goal.returns-clause-stands
@@ -57,7 +57,7 @@ returns-clause-stands g c A cred k =
     written_stands c.args.limits.now _ c.args.table.now c.args.time c.args.file.now c.args.offset c.args.bytes.now
     c.in_ok-target.field-0 c.in_ok-target.ensures.found c.in-Ok.target c.in-Ok.is
     _ _ c.touch_row.new.table (c.in_ok-modify.ensures.tree ∙ c.in_ok-target.ensures.same) c.in_ok-put.ensures.put
-        c.touch_row.ensures.row c.touch_row.ensures.by_handle
+    c.touch_row.ensures.row c.touch_row.ensures.by_handle
     A cred k _ c.in_ok-fattr.ensures.same
 
 pub returns-clause-told : goal.returns-clause-told
@@ -71,4 +71,4 @@ returns-clause-noticed g c A cred k =
     written_noticed c.args.limits.now _ c.args.table.now c.args.time c.args.file.now c.args.offset c.args.bytes.now
     c.in_ok-target.field-0 c.in_ok-target.ensures.found c.in-Ok.target c.in-Ok.is
     A cred k g.M.Modify.noticed c.args.saver.now c.modify.new.self c.requires.within _ c.in_ok-target.ensures.same
-        c.in_ok-modify.ensures.noticed
+    c.in_ok-modify.ensures.noticed
