@@ -1,17 +1,17 @@
 -- What a server holds of files and links, and which files a call finds.
-use Rattle.std.proofs.Common.{◌≡◌, ℕ, true, false, Bool, List, take, drop, length, Option, Some, None, IsSome, IsSomeAnd, is_some, refl, sym, ap, ◌∙◌}
+use Rattle.std.proofs.Common.{◌≡◌, ℕ, true, false, Bool, List, take, drop, length, Option, Some, None, IsSome, IsSomeAnd, is_some, sym, ap, ◌∙◌}
 use Rattle.std.specs.Prelude.{if◌then◌else◌, is_none, unwrap_or}
 use Rattle.std.specs.Option.{option_and_then, option_map}
 use Rattle.nfs2_types.specs.declared.fattr.Kind.TheVariants as kinds
 use Rattle.nfs2_types.specs.declared.Stat.{Stat}
 use Rattle.nfs2_types.specs.declared.stat.TheConstants.{ACCES, ISDIR, STALE}
 use Rattle.server_trait.specs.Tree.{Tree, Node, Content, bytes_in, text_in, bytes_at, text_at}
-use Rattle.server_trait.proofs.TreeLaws.{some_and, some_none, some_same, is_some_and}
+use Rattle.server_trait.proofs.TreeLaws.{some_same, is_some_and}
 use Rattle.server_trait.specs.declared.server.NodeAttr.{NodeAttr}
 use Rattle.server_trait.specs.declared.bench.ConfEntry.{ConfEntry}
 use Rattle.server_trait.specs.declared.bench.ConfTable.{ConfTable}
 use Rattle.abs_model.specs.declared.entry.Object.{Object}
-use Rattle.abs_model.specs.declared.entry.Object.TheVariants.{Null, File, Dir, Link}
+use Rattle.abs_model.specs.declared.entry.Object.TheVariants.{File, Link}
 use Rattle.abs_model.specs.declared.entry.Entry.{Entry}
 use Rattle.abs_model.specs.Objects.{is_file, is_dir, is_link, bytes_of}
 use Rattle.abs_model.specs.Array.{entry_at, live}

@@ -21,12 +21,7 @@ use server_trait::{ConfTable, FileServer, NodeAttr, Srv, WrapErr};
 const MAX_DATA: u32 = 8192;
 
 /// The bytes of a file from an offset up to the count or the end.
-fn bytes_at(
-    server: &mut Srv,
-    file: &Handle,
-    offset: u32,
-    count: u32,
-) -> Result<Vec<u8>, WrapErr>
+fn bytes_at(server: &mut Srv, file: &Handle, offset: u32, count: u32) -> Result<Vec<u8>, WrapErr>
     requires { IsSomeAnd (state server.old).tree (λ t. IsSome (tree.bytes_at t file.now)) }
     ensures bytes { IfOk result (λ v. (t : tree.Tree) → (state server.old).tree ≡ Some t →
         option_map (λ b. take count (drop offset b)) (tree.bytes_at t file.now) ≡ Some v.items) }
