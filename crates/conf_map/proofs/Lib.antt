@@ -18,6 +18,7 @@ pub mod ObjectChanges
 pub mod ObjectFacts
 pub mod OneArray
 pub mod PlacedRows
+pub mod Resized
 pub mod RisingRows
 pub mod RowFacts
 pub mod Seen

@@ -133,19 +133,21 @@ read_performs M told_of noticed limits cred t call s0 tree table m (Err e) kind 
 -- what is built, and neither writes nor makes a name, changes nothing
 pub is_read : (a : Args) → is_built_call (call_of a) ≡ true → ((node : List ℕ) (sattr : Sattr) → a ≡ Args.SetAttr node sattr → ⊥) →
     ((file : List ℕ) (offset : ℕ) (bytes : Bor (List ℕ)) → a ≡ Args.Write file offset bytes → ⊥) →
+    ((dir : List ℕ) (name : Bor (List ℕ)) (sattr : Sattr) → a ≡ Args.Create dir name sattr → ⊥) →
     ((dir : List ℕ) (name text : Bor (List ℕ)) (sattr : Sattr) → a ≡ Args.Symlink dir name text sattr → ⊥) →
     ((dir : List ℕ) (name : Bor (List ℕ)) (sattr : Sattr) → a ≡ Args.MkDir dir name sattr → ⊥) → is_read_call (call_of a) ≡ true
-is_read Args.Null h set write link make = refl
-is_read Args.Root h set write link make = refl
-is_read Args.WriteCache h set write link make = refl
-is_read (Args.GetAttr node) h set write link make = refl
-is_read (Args.SetAttr node sattr) h set write link make = absurd (set node sattr refl)
-is_read (Args.Lookup dir name) h set write link make = refl
-is_read (Args.ReadLink node) h set write link make = refl
-is_read (Args.Read file offset count) h set write link make = refl
-is_read (Args.Write file offset bytes) h set write link make = absurd (write file offset bytes refl)
-is_read (Args.Symlink dir name text sattr) h set write link make = absurd (link dir name text sattr refl)
-is_read (Args.MkDir dir name sattr) h set write link make = absurd (make dir name sattr refl)
-is_read (Args.ReadDir dir cookie count) h set write link make = refl
-is_read (Args.StatFs node) h set write link make = refl
-is_read _ h set write link make = absurd (let bad : false ≡ true = h in cc)
+is_read Args.Null h set write file link make = refl
+is_read Args.Root h set write file link make = refl
+is_read Args.WriteCache h set write file link make = refl
+is_read (Args.GetAttr node) h set write file link make = refl
+is_read (Args.SetAttr node sattr) h set write file link make = absurd (set node sattr refl)
+is_read (Args.Lookup dir name) h set write file link make = refl
+is_read (Args.ReadLink node) h set write file link make = refl
+is_read (Args.Read node offset count) h set write file link make = refl
+is_read (Args.Write node offset bytes) h set write file link make = absurd (write node offset bytes refl)
+is_read (Args.Create dir name sattr) h set write file link make = absurd (file dir name sattr refl)
+is_read (Args.Symlink dir name text sattr) h set write file link make = absurd (link dir name text sattr refl)
+is_read (Args.MkDir dir name sattr) h set write file link make = absurd (make dir name sattr refl)
+is_read (Args.ReadDir dir cookie count) h set write file link make = refl
+is_read (Args.StatFs node) h set write file link make = refl
+is_read _ h set write file link make = absurd (let bad : false ≡ true = h in cc)

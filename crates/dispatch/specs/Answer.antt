@@ -5,7 +5,7 @@ use Rattle.nfs2_types.specs.declared.Time.{Time}
 use Rattle.nfs2_types.specs.declared.Cred.{Cred}
 use Rattle.nfs2_types.specs.declared.Word.{Word}
 use Rattle.nfs2_types.specs.declared.Word.TheVariants as words
-use Rattle.nfs2_types.specs.Call.{Call, null, root, write_cache, get_attr, set_attr, lookup, read_link, read, write, symlink, make_dir, read_dir, stat_fs}
+use Rattle.nfs2_types.specs.Call.{Call, null, root, write_cache, get_attr, set_attr, lookup, read_link, read, write, create, symlink, make_dir, read_dir, stat_fs}
 use Rattle.xdr_core.specs.Grammar.{Stop, reads_all}
 use Rattle.rpc_core.specs.declared.CallHead.{CallHead}
 use Rattle.rpc_core.specs.declared.CallHead.TheVariants as heads
@@ -60,7 +60,7 @@ answer A limits t bytes = by_head A limits t bytes (head_in bytes)
 
 -- WHAT IS BUILT
 
--- the procedures that are built: NULL, GETATTR, LOOKUP and MKDIR (RFC 1094, 2.2.1, 2.2.2, 2.2.5 and 2.2.15)
+-- the procedures that are built (RFC 1094, 2.2)
 abbrev pub is_built_call : Call → Bool
 is_built_call null = true
 is_built_call (get_attr node) = true
@@ -71,6 +71,7 @@ is_built_call (read_link node) = true
 is_built_call (read file offset count) = true
 is_built_call write_cache = true
 is_built_call (write file offset bytes) = true
+is_built_call (create dir name sattr) = true
 is_built_call (symlink dir name text sattr) = true
 is_built_call (make_dir dir name sattr) = true
 is_built_call (read_dir dir cookie count) = true

@@ -25,6 +25,7 @@ fn is_built_call(args: &Args) -> bool
             | Args::ReadLink { .. }
             | Args::Read { .. }
             | Args::Write { .. }
+            | Args::Create { .. }
             | Args::Symlink { .. }
             | Args::MkDir { .. }
             | Args::ReadDir { .. }

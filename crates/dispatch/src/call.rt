@@ -67,6 +67,7 @@ fn procedure<M: Modify>(
     match args {
         Args::SetAttr { .. } => write_proc(server, table, limits, cred, time, args, saver),
         Args::Write { .. } => write_proc(server, table, limits, cred, time, args, saver),
+        Args::Create { .. } => names_proc(server, table, limits, cred, time, args, saver),
         Args::Symlink { .. } => names_proc(server, table, limits, cred, time, args, saver),
         Args::MkDir { .. } => names_proc(server, table, limits, cred, time, args, saver),
         _ => read_proc(server, table, limits, args),

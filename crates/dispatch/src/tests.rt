@@ -6,6 +6,9 @@ use std::test::Fail;
 /// A handle of eight words, and the name `a`.
 const PLACE: [u32; 10] = [0x42415345, 0, 1, 0, 0, 0, 0, 0, 1, 0x61000000];
 
+/// A handle of eight words, and eight zeros.
+const FILE: [u32; 16] = [0x42415345, 0, 1, 0, 0, 0, 0, 0, 0, 0, 0, 0, 0, 0, 0, 0];
+
 fn bytes_of(alloc: Global, parts: &[&[u32]]) -> Result<Vec<u8>, AllocError> {
     let mut bytes = Vec::new(alloc);
     for words in parts {
@@ -57,16 +60,13 @@ fn procedures(rt: HostRuntime) -> Result<(), Fail> {
     Ok(())
 }
 
+// SETATTR with eight words behind the handle, READ with three, and WRITE with four.
 #[test]
-fn procedures_with_more_words(rt: HostRuntime) -> Result<(), Fail> {
+fn procedures_on_a_file(rt: HostRuntime) -> Result<(), Fail> {
     let alloc = rt.alloc();
-    let file = &PLACE[..8];
-    let head = [2, 0, 2, 100003, 2];
-    for (proc, words) in [(2, 8), (6, 3), (8, 4)] {
-        let zeros = [0; 8];
-        let call = bytes_of(alloc, &[&head, &[proc, 0, 0, 0, 0], file, &zeros[..words]])?;
-        assert!(rt; is_built(&call), "{proc}");
-    }
+    built(&rt, alloc, &nfs(2), &FILE, true)?;
+    built(&rt, alloc, &nfs(6), &FILE[..11], true)?;
+    built(&rt, alloc, &nfs(8), &FILE[..12], true)?;
     Ok(())
 }
 

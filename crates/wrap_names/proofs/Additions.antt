@@ -16,7 +16,6 @@ use Rattle.server_trait.specs.declared.bench.ConfEntry.{ConfEntry}
 use Rattle.server_trait.specs.declared.bench.ConfTable.{ConfTable}
 use Rattle.abs_model.specs.declared.entry.Attr.{Attr}
 use Rattle.abs_model.specs.declared.entry.NameRow.{NameRow}
-use Rattle.abs_model.specs.declared.entry.Object.TheVariants.{Dir}
 use Rattle.abs_model.specs.declared.entry.Entry.{Entry}
 use Rattle.abs_model.specs.Objects.{is_null, names_of, attr_of, row_of, placed, written_at}
 use Rattle.abs_model.specs.Array.{entry_at, null_entry, can_take}

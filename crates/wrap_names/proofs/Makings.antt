@@ -1,5 +1,5 @@
 -- A call that makes a new object, from its place to its answer.
-use Rattle.std.proofs.Common.{◌≡◌, ℕ, List, [], ◌∷◌, ◌≤◌, true, length, map, Option, Some, None, Result, Ok, sym, ap, ◌∙◌, subst}
+use Rattle.std.proofs.Common.{◌≡◌, ℕ, List, [], ◌∷◌, ◌≤◌, true, false, length, map, Option, None, Result, Ok, sym, ap, ◌∙◌, subst}
 use Rattle.std.specs.Prelude.{◌&&◌, nat_le, unwrap_or, if◌then◌else◌}
 use Rattle.nfs2_types.specs.declared.Limits.{Limits}
 use Rattle.nfs2_types.specs.declared.Cred.{Cred}
@@ -8,10 +8,9 @@ use Rattle.nfs2_types.specs.declared.Sattr.{Sattr}
 use Rattle.nfs2_types.specs.declared.Stat.{Stat}
 use Rattle.nfs2_types.specs.declared.NfsResult.{NfsResult}
 use Rattle.nfs2_types.specs.declared.NfsResult.TheVariants as results
-use Rattle.nfs2_types.specs.Call.{Call, symlink, make_dir, call_fits, sattr_fits}
+use Rattle.nfs2_types.specs.Call.{Call, create, symlink, make_dir, call_fits, sattr_fits}
 use Rattle.nfs2_types.specs.Times.{is_time}
 use Rattle.server_trait.specs.Tree.{Tree, Server}
-use Rattle.server_trait.specs.declared.server.ServerLimits.{ServerLimits}
 use Rattle.server_trait.specs.declared.bench.ConfEntry.{ConfEntry}
 use Rattle.server_trait.specs.declared.bench.ConfTable.{ConfTable}
 use Rattle.abs_model.specs.declared.entry.Attr.{Attr}
@@ -19,7 +18,7 @@ use Rattle.abs_model.specs.declared.entry.Object.{Object}
 use Rattle.abs_model.specs.declared.entry.Entry.{Entry}
 use Rattle.abs_model.specs.declared.entry.Change.{Change}
 use Rattle.abs_model.specs.Objects.{new_attr}
-use Rattle.abs_model.specs.Array.{at, changed, free, target}
+use Rattle.abs_model.specs.Array.{at, changed, free, has_name, target}
 use Rattle.abs_model.specs.Machine.{first_of, refusals, changes, adds, found_or_made, answer, node_at, array_after, result_of, told}
 use Rattle.abs_model.specs.Valid.{Valid}
 use Rattle.abs_model.proofs.Law.{stays_valid}
@@ -28,12 +27,15 @@ use Rattle.conf_map.proofs.ArrayFacts.{le_of}
 use Rattle.conf_map.proofs.RowFacts.{and_left, and_right}
 use Rattle.conf_map.proofs.Answered.{answered, answered_array, answered_told}
 use Rattle.conf_map.specs.Notice.{NoticedAll}
-use Rattle.conf_map.specs.Stands.{StandsValid, StandValid, AreWithin, HasRoom, Stands}
+use Rattle.conf_map.specs.Stands.{StandValid, AreWithin, HasRoom, Stands}
 use Rattle.conf_map.specs.declared.table.Located.{Located}
 use Rattle.wrap_names.specs.declared.place.Place.{Place}
 use Rattle.wrap_names.specs.Places.{PlaceFound, IsPlace, CanAdd}
+use Rattle.wrap_names.specs.declared.spot.Spot.{Spot}
+use Rattle.wrap_names.specs.declared.spot.Spot.TheVariants.{Free}
+use Rattle.wrap_names.specs.Files.{SpotFound, IsNewFile, resizes}
 use Rattle.wrap_names.specs.News.{IsAdded, added, with_new}
-use Rattle.wrap_names.specs.Objects.{New, new_dir, new_link, default_mode, byte_count, object_of, IsSmall}
+use Rattle.wrap_names.specs.Objects.{New, new_dir, new_file, new_link, default_mode, byte_count, object_of, IsSmall}
 use Rattle.wrap_names.proofs.Refusals.{not_refused}
 
 -- CALLS THAT MAKE
@@ -82,6 +84,26 @@ module _ (A : List Entry) (limits : Limits) (cred : Cred) (t : Time) (rows : Lis
         none = not_refused A limits rows dir name (length text) p c;
         changes_are = adds_are A limits rows dir name (length text) p c t (object_for (new_link text) cred t sattr);
       }
+
+-- CREATE
+pub file_makes : (A : List Entry) (limits : Limits) (cred : Cred) (t : Time) (rows : List ConfEntry) (dir name : List ℕ) (sattr : Sattr) {r : Result Spot Stat} {spot : Spot} {p : Place} → r ≡ Ok spot → spot ≡ Free p →
+    (size : ℕ) → size ≡ unwrap_or sattr.size 0 → SpotFound A limits rows dir name sattr r → MakesNew A limits cred t (create dir name sattr) rows dir name sattr (new_file size) p
+file_makes A limits cred t rows dir name sattr {p} is free size is_size found =
+    let c : IsNewFile A limits rows dir name sattr p = subst (SpotFound A limits rows dir name sattr) (is ∙ ap Ok free) found in
+    let new : Object = object_for (new_file (unwrap_or sattr.size 0)) cred t sattr in
+    let k = c.place in
+    let lacks : has_name A (at A dir) name ≡ false = ap (λ d. has_name A d name) (at-live A dir p.dir.index k.in_dir.is_index) ∙ k.lacks in
+    subst (λ size. MakesNew A limits cred t (create dir name sattr) rows dir name sattr (new_file size) p) (sym is_size) (record {
+      place = k;
+      none = c.none;
+      changes_are = ap (λ b. if b then resizes A (target A (at A dir) name) sattr.size t else adds A (at A dir) name t new) lacks ∙ adds_are A limits rows dir name (unwrap_or sattr.size 0) p k t new;
+    })
+
+pub file_small : (A : List Entry) (limits : Limits) (rows : List ConfEntry) (dir name : List ℕ) (sattr : Sattr) {r : Result Spot Stat} {spot : Spot} {p : Place} → r ≡ Ok spot → spot ≡ Free p →
+    (size : ℕ) → size ≡ unwrap_or sattr.size 0 → SpotFound A limits rows dir name sattr r → size ≤ 1048576
+file_small A limits rows dir name sattr {p} is free size is_size found =
+    let c : IsNewFile A limits rows dir name sattr p = subst (SpotFound A limits rows dir name sattr) (is ∙ ap Ok free) found in
+    subst (λ size. size ≤ 1048576) (sym is_size) c.small
 
 -- a link's text
 pub text_small : (dir name text : List ℕ) (sattr : Sattr) → call_fits (symlink dir name text sattr) ≡ true → length text ≤ 1024

@@ -11,7 +11,7 @@ use Rattle.server_trait.specs.declared.server.SrvErr.TheVariants.{Stale, WrongKi
 use Rattle.server_trait.specs.declared.bench.WrapErr.{WrapErr}
 use Rattle.server_trait.specs.declared.server.ServerLimits.{ServerLimits}
 use Rattle.server_trait.specs.declared.server.NodeAttr.{NodeAttr}
-use Rattle.server_trait.proofs.TreeLaws.{some_and, is_some_and, some_none, some_same, and_then, and_then_some, get-insert_other, edited-some, root-edited, node_at-edited_same, node_at-edited_other, used-with_node, used-edited}
+use Rattle.server_trait.proofs.TreeLaws.{some_and, is_some_and, some_none, some_same, and_then_some, get-insert_other, edited-some, root-edited, node_at-edited_same, node_at-edited_other, used-with_node, used-edited}
 use Rattle.server_trait.proofs.SoftLaws.{made_node, failed, node_none}
 use Rattle.abs_model.specs.declared.entry.Attr.{Attr}
 use Rattle.conf_map.specs.Fresh.{HoldsUpTo}
@@ -92,8 +92,7 @@ module _ (t : Tree) (dir name h : List ℕ) (content : Content) (s : Option Tree
       let at = still n.0 n.1 in
       let a = used-edited t0 dir f n.0 at in
       let b = used-with_node t h fresh m.new_handle in
-      let c = used_named n.0 n.0.content k.0 name h refl n.2 k.2 in
-      (
+      let c = used_named n.0 n.0.content k.0 name h refl n.2 k.2 in (
         ap (λ (t : Tree). len t.nodes) (edited-some t0 dir f n.0 at) ∙ len_same t0.nodes dir (f n.0) n.0 at ∙ len_more t.nodes h fresh m.new_handle,
         omega (arith, a, b, c),
       )
@@ -138,7 +137,7 @@ module _ (s0 s1 : Option Tree) (dir name h : List ℕ) (made : (t : Tree) → s0
     sized known set t is =
         let b = begun_known s0 s1 dir name h (BytesOf []) known made t is in
         let now : IsMade t dir name h (new_node b.number (BytesOf (resized size []))) (edited b.tree h (with_bytes (resized size))) =
-            made_edited t dir name h (new_node b.number (BytesOf [])) b.tree (with_bytes (resized size)) refl b.made in
+        made_edited t dir name h (new_node b.number (BytesOf [])) b.tree (with_bytes (resized size)) refl b.made in
         record {
           number = b.number;
           tree = edited b.tree h (with_bytes (resized size));

@@ -11,7 +11,7 @@ use Rattle.server_trait.specs.declared.bench.ConfEntry.{ConfEntry}
 use Rattle.server_trait.specs.declared.bench.ConfTable.{ConfTable}
 use Rattle.abs_model.specs.declared.entry.Entry.{Entry}
 use Rattle.abs_model.specs.Array.{at, free, has_name, used}
-use Rattle.abs_model.specs.Machine.{Refusal, ◌answers◌, first_of, no_new, no_room}
+use Rattle.abs_model.specs.Machine.{Refusal, ◌answers◌, no_new, no_room}
 use Rattle.abs_model.proofs.Named.{at-live}
 use Rattle.conf_map.specs.Stands.{StandsValid, StandValid, AreWithin}
 use Rattle.conf_map.specs.Tables.{is_free_row}
@@ -49,7 +49,7 @@ module _ (limits : Limits) (bytes : ℕ) (s : Option Tree) (table : ConfTable) (
       space = let least = ltb-false limits.t (used A + (512 + bytes) - 0) has in omega (arith, least);
     }
 
-low_is : (a b : ℕ) → b ≤ a → nat_lt a b ≡ false
+pub low_is : (a b : ℕ) → b ≤ a → nat_lt a b ≡ false
 low_is a b low = grind (arith, nat_tests)
 
 -- where there is an index, a new object has its space

@@ -1,9 +1,10 @@
 -- The calls that change names (RFC 1094, 2.2).
 use Rattle.std.specs.Prelude.{Bool, true, false}
-use Rattle.nfs2_types.specs.Call.{Call, symlink, make_dir}
+use Rattle.nfs2_types.specs.Call.{Call, create, symlink, make_dir}
 
--- SYMLINK and MKDIR
+-- CREATE, SYMLINK and MKDIR
 abbrev pub is_names_call : Call → Bool
+is_names_call (create dir name sattr) = true
 is_names_call (symlink dir name text sattr) = true
 is_names_call (make_dir dir name sattr) = true
 is_names_call _ = false

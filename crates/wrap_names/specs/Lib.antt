@@ -1,3 +1,4 @@
+pub mod Files
 pub mod Kinds
 pub mod News
 pub mod Objects

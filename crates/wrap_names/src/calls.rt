@@ -9,6 +9,7 @@ ghost use Rattle.conf_map.specs.Stands.{Stands, StandsValid, AreWithin, HasRoom}
 ghost use Rattle.conf_map.specs.Notice.{Watched, NoticedAll};
 ghost use Rattle.wrap_names.specs.Kinds.{is_names_call};
 
+use crate::create::create;
 use crate::make_dir::make_dir;
 use crate::symlink::symlink;
 use conf_map::Modify;
@@ -51,12 +52,17 @@ pub fn names_proc<M: Modify>(
     ensures watched { Watched (state server.old) (state server.new) result }
 {
     match args {
+        Args::Create { dir, name, sattr } => {
+            create(server, table, limits, cred, time, dir, name, sattr, saver)
+        }
         Args::Symlink {
             dir,
             name,
             text,
             sattr,
-        } => symlink(server, table, limits, cred, time, dir, name, text, sattr, saver),
+        } => symlink(
+            server, table, limits, cred, time, dir, name, text, sattr, saver,
+        ),
         Args::MkDir { dir, name, sattr } => {
             make_dir(server, table, limits, cred, time, dir, name, sattr, saver)
         }

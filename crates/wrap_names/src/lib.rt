@@ -2,11 +2,14 @@
 #![tactic(auto)]
 
 mod calls;
+mod create;
 mod make;
 mod make_dir;
 mod node;
 mod object;
 mod place;
+mod resize;
+mod spot;
 mod symlink;
 mod tell;
 

@@ -9,9 +9,13 @@ pub returns-in-Write-clause-performs : goal.returns-in-Write-clause-performs
 returns-in-Write-clause-performs g c =
     changes_perform _ _ _ _ _ _ _ _ _ _ _ _ _ c.write_proc-in-Write.result c.write_proc-in-Write.ensures.answers c.write_proc-in-Write.ensures.stands c.write_proc-in-Write.ensures.told c.write_proc-in-Write.ensures.noticed
 
+pub returns-in-Create-clause-performs : goal.returns-in-Create-clause-performs
+returns-in-Create-clause-performs g c =
+    changes_perform _ _ _ _ _ _ _ _ _ _ _ _ _ c.names_proc.result c.names_proc.ensures.answers c.names_proc.ensures.stands c.names_proc.ensures.told c.names_proc.ensures.noticed
+
 pub returns-in-Symlink-clause-performs : goal.returns-in-Symlink-clause-performs
 returns-in-Symlink-clause-performs g c =
-    changes_perform _ _ _ _ _ _ _ _ _ _ _ _ _ c.names_proc.result c.names_proc.ensures.answers c.names_proc.ensures.stands c.names_proc.ensures.told c.names_proc.ensures.noticed
+    changes_perform _ _ _ _ _ _ _ _ _ _ _ _ _ c.names_proc-in-Symlink.result c.names_proc-in-Symlink.ensures.answers c.names_proc-in-Symlink.ensures.stands c.names_proc-in-Symlink.ensures.told c.names_proc-in-Symlink.ensures.noticed
 
 pub returns-in-MkDir-clause-performs : goal.returns-in-MkDir-clause-performs
 returns-in-MkDir-clause-performs g c =
@@ -19,7 +23,7 @@ returns-in-MkDir-clause-performs g c =
 
 pub returns-in_default : goal.returns-in_default
 returns-in_default g c = record {
-  performs = read_performs _ _ _ _ _ _ _ _ _ _ _ c.read_proc.result (is_read c.args.args.now c.requires.call c.in_default.not-SetAttr c.in_default.not-Write c.in_default.not-Symlink c.in_default.not-MkDir)
+  performs = read_performs _ _ _ _ _ _ _ _ _ _ _ c.read_proc.result (is_read c.args.args.now c.requires.call c.in_default.not-SetAttr c.in_default.not-Write c.in_default.not-Create c.in_default.not-Symlink c.in_default.not-MkDir)
       c.read_proc.ensures.result c.read_proc.ensures.same;
   watched = c.read_proc.ensures.watched;
 }
