@@ -2,6 +2,7 @@
 //! gives, with each refusal and each effect of RFC 1094, 2.2.
 
 mod dirs;
+mod files;
 mod service;
 mod words;
 
@@ -26,6 +27,14 @@ fn directories(alloc: Global, server: Srv) -> Result<(), Fail> {
     dirs::filled(alloc, &mut service)
 }
 
+/// The tables of files and links, over a server.
+fn files_and_links(alloc: Global, server: Srv) -> Result<(), Fail> {
+    let mut service = Service::new(alloc, server)?;
+    files::made(alloc, &mut service)?;
+    files::written(alloc, &mut service)?;
+    files::set(alloc, &mut service)
+}
+
 /// A path server.
 fn path_server(alloc: Global) -> Result<PathServer, Fail> {
     match PathServer::new(alloc, LIMITS) {
@@ -37,11 +46,13 @@ fn path_server(alloc: Global) -> Result<PathServer, Fail> {
 #[test]
 fn over_a_path_server(rt: HostRuntime) -> Result<(), Fail> {
     let alloc = rt.alloc();
-    directories(alloc, Box::new(alloc, path_server(alloc)?)?)
+    directories(alloc, Box::new(alloc, path_server(alloc)?)?)?;
+    files_and_links(alloc, Box::new(alloc, path_server(alloc)?)?)
 }
 
 #[test]
 fn over_a_reluctant_server(rt: HostRuntime) -> Result<(), Fail> {
     let alloc = rt.alloc();
-    directories(alloc, Box::new(alloc, Reluctant::new(path_server(alloc)?))?)
+    directories(alloc, Box::new(alloc, Reluctant::new(path_server(alloc)?))?)?;
+    files_and_links(alloc, Box::new(alloc, Reluctant::new(path_server(alloc)?))?)
 }
