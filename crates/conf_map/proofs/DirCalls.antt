@@ -5,26 +5,22 @@ use Rattle.std.specs.Option.{option_map}
 use Rattle.nfs2_types.specs.declared.Stat.{Stat}
 use Rattle.nfs2_types.specs.declared.stat.TheConstants.{ACCES, NOTDIR, STALE}
 use Rattle.nfs2_types.specs.Names.{is_bad}
-use Rattle.server_trait.specs.Tree.{Tree, Node, Names, Content, BytesOf, TextOf, NamesOf, node_at, names_at, names_in, kind_of, target}
-use Rattle.server_trait.specs.Calls.{IsAttr}
-use Rattle.server_trait.proofs.TreeLaws.{some_and, is_some_and, some_none, some_same}
-use Rattle.server_trait.specs.declared.server.NodeAttr.{NodeAttr}
+use Rattle.server_trait.specs.Tree.{Tree, Node, names_at, target}
+use Rattle.server_trait.proofs.TreeLaws.{is_some_and, some_none, some_same}
 use Rattle.server_trait.specs.declared.bench.ConfEntry.{ConfEntry}
 use Rattle.server_trait.specs.declared.bench.ConfTable.{ConfTable}
-use Rattle.abs_model.specs.declared.entry.Object.{Object}
-use Rattle.abs_model.specs.declared.entry.Object.TheVariants.{Null, File, Dir, Link}
 use Rattle.abs_model.specs.declared.entry.NameRow.{NameRow}
 use Rattle.abs_model.specs.declared.entry.Entry.{Entry}
 use Rattle.abs_model.specs.Objects.{is_dir, names_of, row_of}
 use Rattle.abs_model.specs.Array.{entry_at, live, has_name}
 use Rattle.abs_model.specs.Machine.{first_of, in_dir}
 use Rattle.conf_map.specs.declared.table.Located.{Located}
-use Rattle.conf_map.specs.Stands.{handle_at, SameNames, SameContent, StandValid}
+use Rattle.conf_map.specs.Stands.{handle_at, StandValid}
 use Rattle.conf_map.specs.Moves.{IsAt}
 use Rattle.conf_map.specs.Tables.{located, index_in}
-use Rattle.conf_map.specs.Found.{is_dir_kind, IsDirCall, IsLed}
+use Rattle.conf_map.specs.Found.{IsDirCall, IsLed}
 use Rattle.conf_map.proofs.Frames.{entry_at-some}
-use Rattle.conf_map.proofs.LiveRows.{at_handle, same_content}
+use Rattle.conf_map.proofs.LiveRows.{at_handle}
 use Rattle.conf_map.proofs.Seen.{live_agrees, located_live}
 use Rattle.conf_map.proofs.Targets.{dir_map, row_of_target, no_row_of_target}
 

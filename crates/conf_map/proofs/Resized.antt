@@ -22,99 +22,118 @@ use Rattle.conf_map.proofs.Kept.{stands_changed}
 use Rattle.conf_map.proofs.LiveRows.{at_handle, same_attr, same_content}
 
 -- a file is its attributes and its bytes
-pub file_parts : (g : ℕ) (o : Object) → is_file (record { generation = g; object = o }) ≡ true → o ≡ File (attr_of (record { generation = g; object = o })) (bytes_of (record { generation = g; object = o }))
+pub file_parts : (g : ℕ) (o : Object) → is_file (record { generation = g; object = o }) ≡ true →
+    o ≡ File (attr_of (record { generation = g; object = o })) (bytes_of (record { generation = g; object = o }))
 file_parts g Null is = absurd (let bad : false ≡ true = is in cc)
 file_parts g (File a b) is = refl
 file_parts g (Dir a b) is = absurd (let bad : false ≡ true = is in cc)
 file_parts g (Link a b) is = absurd (let bad : false ≡ true = is in cc)
 
 -- and no directory
-pub file_no_dir : (g : ℕ) (o : Object) → is_file (record { generation = g; object = o }) ≡ true → is_dir (record { generation = g; object = o }) ≡ false
+pub file_no_dir : (g : ℕ) (o : Object) → is_file (record { generation = g; object = o }) ≡ true →
+    is_dir (record { generation = g; object = o }) ≡ false
 file_no_dir g Null is = refl
 file_no_dir g (File a b) is = refl
 file_no_dir g (Dir a b) is = absurd (let bad : false ≡ true = is in cc)
 file_no_dir g (Link a b) is = refl
 
-file_names : (g : ℕ) (o : Object) → is_file (record { generation = g; object = o }) ≡ true → names_of (record { generation = g; object = File (attr_of (record { generation = g; object = o })) [] }) ≡ names_of (record { generation = g; object = o })
+file_names : (g : ℕ) (o : Object) → is_file (record { generation = g; object = o }) ≡ true →
+    names_of (record { generation = g; object = File (attr_of (record { generation = g; object = o })) [] }) ≡
+    names_of (record { generation = g; object = o })
 file_names g Null is = refl
 file_names g (File a b) is = refl
 file_names g (Dir a b) is = absurd (let bad : false ≡ true = is in cc)
 file_names g (Link a b) is = refl
 
-module _ (s : Option Tree) (table : ConfTable) (A : List Entry) (st : Stands s table A) (i : ℕ) (h : List ℕ) (live : handle_at table.rows.items i ≡ Some h) (file : is_file (entry_at A i) ≡ true) where
+module _ (s : Option Tree) (table : ConfTable) (A : List Entry) (st : Stands s table A) (i : ℕ) (h : List ℕ)
+    (live : handle_at table.rows.items i ≡ Some h) (file : is_file (entry_at A i) ≡ true) where
   abbrev e : Entry
   e = entry_at A i
 
   at_file : (r : ConfEntry) × (n : Node) × IsAt st.tree table A i h r n e
-  at_file = let k = at_handle s table A st i h live in (k.0, k.1, subst (IsAt st.tree table A i h k.0 k.1) (sym (entry_at-some A i k.2 k.3.is_entry)) k.3)
+  at_file =
+      let k = at_handle s table A st i h live in
+      (k.0, k.1, subst (IsAt st.tree table A i h k.0 k.1) (sym (entry_at-some A i k.2 k.3.is_entry)) k.3)
 
   content : at_file.1.content ≡ BytesOf (bytes_of e)
-  content = subst (λ o. SameContent table.rows.items o at_file.1.content) (file_parts e.generation e.object file) (same_content s table A st i h at_file.0 at_file.1 e at_file.2)
+  content = subst (λ o. SameContent table.rows.items o at_file.1.content) (file_parts e.generation e.object file)
+      (same_content s table A st i h at_file.0 at_file.1 e at_file.2)
 
   -- the node of a file has its bytes
   pub file_node : (n : Node) × (node_at st.tree h ≡ Some n) × (n.content ≡ BytesOf (bytes_of e))
   file_node = (at_file.1, at_file.2.is_node, content)
 
-  module _ (s' : Option Tree) (table' : ConfTable) (f : List ℕ → List ℕ) (t : Time) (has : s' ≡ Some (edited st.tree h (tree.with_bytes f)))
-      (rows : (r : ConfEntry) → slice_get table.rows.items i ≡ Some r → table'.rows.items ≡ slice_set table.rows.items i (touched t r)) (by_handle : table'.by_handle ≡ table.by_handle) where
-    abbrev r : ConfEntry
-    r = at_file.0
+  module _ (s' : Option Tree) (table' : ConfTable) (f : List ℕ → List ℕ) (t : Time)
+      (has : s' ≡ Some (edited st.tree h (tree.with_bytes f)))
+      (rows : (r : ConfEntry) → slice_get table.rows.items i ≡ Some r →
+      table'.rows.items ≡ slice_set table.rows.items i (touched t r)) (by_handle : table'.by_handle ≡ table.by_handle)
+    where
+      abbrev r : ConfEntry
+      r = at_file.0
 
-    abbrev n : Node
-    n = at_file.1
+      abbrev n : Node
+      n = at_file.1
 
-    abbrev t' : Tree
-    t' = edited st.tree h (tree.with_bytes f)
+      abbrev t' : Tree
+      t' = edited st.tree h (tree.with_bytes f)
 
-    abbrev A' : List Entry
-    A' = set A i (with_bytes f t e)
+      abbrev A' : List Entry
+      A' = set A i (with_bytes f t e)
 
-    now : table'.rows.items ≡ slice_set table.rows.items i (touched t r)
-    now = rows r at_file.2.is_row
+      now : table'.rows.items ≡ slice_set table.rows.items i (touched t r)
+      now = rows r at_file.2.is_row
 
-    changes : ChangesNode st.tree table A i t' table' A'
-    changes =
-        let old = same_attr s table A st i h r n e at_file.2 in
-        let node_now = node_at-edited_same st.tree h (tree.with_bytes f) n at_file.2.is_node in
-        record {
-          handle = h;
-          row = r;
-          row' = touched t r;
-          node = n;
-          node' = tree.with_bytes f n;
-          entry = e;
-          entry' = with_bytes f t e;
-          before = at_file.2;
-          root = root-edited st.tree h (tree.with_bytes f);
-          node_now = node_now;
-          nodes = node_at-edited_other st.tree h (tree.with_bytes f);
-          number = refl;
-          rows = record {
-            size = ap length now ∙ length-set table.rows.items i (touched t r);
-            here = ap (λ l. slice_get l i) now ∙ slice_get-set_same table.rows.items i (touched t r) r at_file.2.is_row;
-            others = λ j ne. ap (λ l. slice_get l j) now ∙ slice_get-set_other table.rows.items i j (touched t r) ne;
-          };
-          same_row = record { generation = refl; handle = refl; number = refl };
-          parent = refl;
-          by_handle = by_handle;
-          array = record {
-            size = length-set A i (with_bytes f t e);
-            here = slice_get-set_same A i (with_bytes f t e) e at_file.2.is_entry;
-            others = λ j ne. slice_get-set_other A i j (with_bytes f t e) ne;
-          };
-          generation = refl;
-          names = file_names e.generation e.object file;
-          dir = sym (file_no_dir e.generation e.object file);
-          object = record {
+      changes : ChangesNode st.tree table A i t' table' A'
+      changes =
+          let old = same_attr s table A st i h r n e at_file.2 in
+          let node_now = node_at-edited_same st.tree h (tree.with_bytes f) n at_file.2.is_node in
+          record {
             handle = h;
-            node = tree.with_bytes f n;
-            is_handle = at_file.2.is_handle;
-            is_node = node_now;
-            attr = record { number = old.number; mode = old.mode; uid = old.uid; gid = old.gid; atime = old.atime; mtime = refl; ctime = refl };
-            content = ap (λ c. (tree.with_bytes f (record n { content = c })).content) content;
-          };
-        }
+            row = r;
+            row' = touched t r;
+            node = n;
+            node' = tree.with_bytes f n;
+            entry = e;
+            entry' = with_bytes f t e;
+            before = at_file.2;
+            root = root-edited st.tree h (tree.with_bytes f);
+            node_now = node_now;
+            nodes = node_at-edited_other st.tree h (tree.with_bytes f);
+            number = refl;
+            rows = record {
+              size = ap length now ∙ length-set table.rows.items i (touched t r);
+              here = ap (λ l. slice_get l i) now ∙ slice_get-set_same table.rows.items i (touched t r) r at_file.2.is_row;
+              others = λ j ne. ap (λ l. slice_get l j) now ∙ slice_get-set_other table.rows.items i j (touched t r) ne;
+            };
+            same_row = record { generation = refl; handle = refl; number = refl };
+            parent = refl;
+            by_handle = by_handle;
+            array = record {
+              size = length-set A i (with_bytes f t e);
+              here = slice_get-set_same A i (with_bytes f t e) e at_file.2.is_entry;
+              others = λ j ne. slice_get-set_other A i j (with_bytes f t e) ne;
+            };
+            generation = refl;
+            names = file_names e.generation e.object file;
+            dir = sym (file_no_dir e.generation e.object file);
+            object = record {
+              handle = h;
+              node = tree.with_bytes f n;
+              is_handle = at_file.2.is_handle;
+              is_node = node_now;
+              attr = record {
+                number = old.number;
+                mode = old.mode;
+                uid = old.uid;
+                gid = old.gid;
+                atime = old.atime;
+                mtime = refl;
+                ctime = refl;
+              };
+              content = ap (λ c. (tree.with_bytes f (record n { content = c })).content) content;
+            };
+          }
 
-    -- they stand for the array with the other bytes
-    pub stands_resized : Stands s' table' (set A i (with_bytes f t (entry_at A i)))
-    stands_resized = stands_changed s s' table table' A A' t' i st changes has
+      -- they stand for the array with the other bytes
+      pub stands_resized : Stands s' table' (set A i (with_bytes f t (entry_at A i)))
+      stands_resized = stands_changed s s' table table' A A' t' i st changes has

@@ -1,6 +1,6 @@
 -- The results of calls: each has a spelling, and calls that read change nothing.
-use Rattle.std.proofs.Common.{◌≡◌, ◌≢◌, ◌≤◌, ◌<◌, ℕ, Bool, true, false, not, cond, List, [], ◌∷◌, length, Option, Some, None, All, refl, sym, ◌∙◌, ap, subst, arith, inl, inr}
-use Rattle.std.specs.Prelude.{is_some, map, min, take, drop, ◌==◌, ◌&&◌, ◌-◌, ◌+◌, nat_le, if◌then◌else◌}
+use Rattle.std.proofs.Common.{◌≡◌, ◌≢◌, ◌≤◌, ◌<◌, ℕ, Bool, true, false, not, cond, List, [], ◌∷◌, length, Option, Some, None, All, refl, sym, ap, subst, arith, inl, inr}
+use Rattle.std.specs.Prelude.{is_some, map, min, drop, ◌==◌, ◌&&◌, ◌-◌, ◌+◌, nat_le, if◌then◌else◌}
 use Rattle.std.specs.List.{list_all}
 use Rattle.std.proofs.lemmas.Bool.{and_parts, not-true, not-false, eqb-false, leb-true, cases_lt}
 use Rattle.std.proofs.lemmas.List.{get_or_past, get_or-drop, length-drop, length-take}

@@ -27,12 +27,14 @@ use Rattle.wrap_names.proofs.NameTests.{name_first, rest_first}
 -- WHAT STANDS
 
 -- a call that changed nothing
-pub stands_still : (limits : Limits) (s s' : Option Tree) (table : ConfTable) (A : List Entry) → s' ≡ s → StandsValid limits s table A → StandsValid limits s' table A
+pub stands_still : (limits : Limits) (s s' : Option Tree) (table : ConfTable) (A : List Entry) → s' ≡ s →
+    StandsValid limits s table A → StandsValid limits s' table A
 stands_still limits s s' table A same = subst (λ s. StandsValid limits s table A) (sym same)
 
 -- INDEXES
 
-module _ (limits : Limits) (bytes : ℕ) (s : Option Tree) (table : ConfTable) (A : List Entry) (k : StandsValid limits s table A) where
+module _ (limits : Limits) (bytes : ℕ) (s : Option Tree) (table : ConfTable) (A : List Entry)
+    (k : StandsValid limits s table A) where
   pub no_index : None ≡ position is_free_row table.rows.items → no_new A limits bytes ≡ true
   no_index is = ap (λ o. is_none o || no_room A limits 0 (512 + bytes)) (sym (free_agrees s table A k.stands) ∙ sym is)
 
@@ -53,23 +55,28 @@ pub low_is : (a b : ℕ) → b ≤ a → nat_lt a b ≡ false
 low_is a b low = grind (arith, nat_tests)
 
 -- where there is an index, a new object has its space
-pub index_new : (A : List Entry) (limits : Limits) (bytes i : ℕ) → IsIndex A limits bytes i → no_new A limits bytes ≡ false
+pub index_new : (A : List Entry) (limits : Limits) (bytes i : ℕ) → IsIndex A limits bytes i →
+    no_new A limits bytes ≡ false
 index_new A limits bytes i c =
-    ap (λ o. is_none o || no_room A limits 0 (512 + bytes)) c.is_free ∙ low_is limits.t (used A + (512 + bytes) - 0) (let space = c.space in omega (arith, space))
+    ap (λ o. is_none o || no_room A limits 0 (512 + bytes)) c.is_free
+    ∙ low_is limits.t (used A + (512 + bytes) - 0) (let space = c.space in omega (arith, space))
 
 -- WHERE A NAME IS LOOKED FOR
 
-pub name_there : (A : List Entry) (rows : List ConfEntry) (d : ℕ) (name : List ℕ) (o : Option Located) → NameFound A rows d name o → has_name A d name ≡ is_some o
+pub name_there : (A : List Entry) (rows : List ConfEntry) (d : ℕ) (name : List ℕ) (o : Option Located) →
+    NameFound A rows d name o → has_name A d name ≡ is_some o
 name_there A rows d name None found = found
 name_there A rows d name (Some at) found = found.has
 
 -- the directory of the call
-pub dir_at : (A : List Entry) (rows : List ConfEntry) (dir name : List ℕ) (n : Named) → IsNamed A rows dir name n → at A dir ≡ n.dir.index
+pub dir_at : (A : List Entry) (rows : List ConfEntry) (dir name : List ℕ) (n : Named) → IsNamed A rows dir name n →
+    at A dir ≡ n.dir.index
 dir_at A rows dir name n c = at-live A dir n.dir.index c.in_dir.is_index
 
 -- PLACES
 
-module _ (limits : Limits) (within : AreWithin limits) (bytes : ℕ) (s : Option Tree) (table : ConfTable) (dir name : List ℕ) (r : Result Named Stat)
+module _ (limits : Limits) (within : AreWithin limits) (bytes : ℕ) (s : Option Tree) (table : ConfTable)
+    (dir name : List ℕ) (r : Result Named Stat)
     (found : (A : List Entry) → StandValid s table A → NamedFound A table.rows.items dir name r) where
   abbrev later : Bool → Bool → Option Stat
   later has full = if has then Some EXIST else (if full then Some NOSPC else None)
@@ -81,8 +88,10 @@ module _ (limits : Limits) (within : AreWithin limits) (bytes : ℕ) (s : Option
   named_found A k = found A (stand_valid limits s table A within k)
 
   -- a refusal of the name
-  pub name_refused : (A : List Entry) → StandsValid limits s table A → (stat : Stat) → r ≡ Err stat → refused A limits dir name bytes ≡ Some stat
-  name_refused A k stat is = name_first A dir name (rest A) stat (subst (NamedFound A table.rows.items dir name) is (named_found A k))
+  pub name_refused : (A : List Entry) → StandsValid limits s table A → (stat : Stat) → r ≡ Err stat →
+      refused A limits dir name bytes ≡ Some stat
+  name_refused A k stat is = name_first A dir name (rest A) stat
+      (subst (NamedFound A table.rows.items dir name) is (named_found A k))
 
   module _ (n : Named) (is : r ≡ Ok n) where
     is_named : (A : List Entry) → StandsValid limits s table A → IsNamed A table.rows.items dir name n
@@ -94,7 +103,8 @@ module _ (limits : Limits) (within : AreWithin limits) (bytes : ℕ) (s : Option
 
       after_name : refused A limits dir name bytes ≡ later (is_some n.at) (no_new A limits bytes)
       after_name = rest_first A dir name (rest A) table.rows.items n (is_named A k)
-          ∙ ap (λ d. later (has_name A d name) (no_new A limits bytes)) (dir_at A table.rows.items dir name n (is_named A k))
+          ∙ ap (λ d. later (has_name A d name) (no_new A limits bytes))
+          (dir_at A table.rows.items dir name n (is_named A k))
           ∙ ap (λ b. later b (no_new A limits bytes)) there
 
       -- a name that is there is refused
@@ -108,10 +118,12 @@ module _ (limits : Limits) (within : AreWithin limits) (bytes : ℕ) (s : Option
 
         -- a name with no index or no space for its object is refused
         pub space_found : index ≡ None → refused A limits dir name bytes ≡ Some NOSPC
-        space_found none = after_name ∙ ap (λ b. later b (no_new A limits bytes)) lacks ∙ ap (later false) (subst (IndexFound A limits bytes) none new_at)
+        space_found none = after_name ∙ ap (λ b. later b (no_new A limits bytes)) lacks
+            ∙ ap (later false) (subst (IndexFound A limits bytes) none new_at)
 
         -- and any other has its place
-        pub place_found : (i : ℕ) → index ≡ Some i → IsPlace A limits table.rows.items dir name bytes (record { dir = n.dir; index = i })
+        pub place_found : (i : ℕ) → index ≡ Some i →
+            IsPlace A limits table.rows.items dir name bytes (record { dir = n.dir; index = i })
         place_found i at =
             let c = is_named A k in
             record {
@@ -123,11 +135,15 @@ module _ (limits : Limits) (within : AreWithin limits) (bytes : ℕ) (s : Option
             }
 
 -- what has its place is not refused
-pub not_refused : (A : List Entry) (limits : Limits) (rows : List ConfEntry) (dir name : List ℕ) (bytes : ℕ) (p : Place) → IsPlace A limits rows dir name bytes p → refused A limits dir name bytes ≡ None
+pub not_refused : (A : List Entry) (limits : Limits) (rows : List ConfEntry) (dir name : List ℕ) (bytes : ℕ)
+    (p : Place) → IsPlace A limits rows dir name bytes p → refused A limits dir name bytes ≡ None
 not_refused A limits rows dir name bytes p c =
     let n : Named = record { dir = p.dir; at = None } in
-    let named : IsNamed A rows dir name n = record { in_dir = c.in_dir; no_dot = c.no_dot; good = c.good; found = c.lacks } in
-    rest_first A dir name ((has_name A (at A dir) name answers EXIST) ∷ (no_new A limits bytes answers NOSPC) ∷ []) rows n named
-    ∙ ap (λ d. if has_name A d name then Some EXIST else (if no_new A limits bytes then Some NOSPC else None)) (dir_at A rows dir name n named)
+    let named : IsNamed A rows dir name n =
+    record { in_dir = c.in_dir; no_dot = c.no_dot; good = c.good; found = c.lacks } in
+    rest_first A dir name ((has_name A (at A dir) name answers EXIST) ∷ (no_new A limits bytes answers NOSPC) ∷ [])
+    rows n named
+    ∙ ap (λ d. if has_name A d name then Some EXIST else (if no_new A limits bytes then Some NOSPC else None))
+    (dir_at A rows dir name n named)
     ∙ ap (λ b. if b then Some EXIST else (if no_new A limits bytes then Some NOSPC else None)) c.lacks
     ∙ ap (λ b. if b then Some NOSPC else None) (index_new A limits bytes p.index c.index)

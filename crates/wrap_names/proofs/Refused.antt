@@ -22,23 +22,31 @@ use Rattle.wrap_names.specs.Files.{SpotFound}
 use Rattle.wrap_names.specs.Places.{refused, PlaceFound}
 
 -- the place of a new object was not found
-pub place_refused : (A : List Entry) (limits : Limits) (rows : List ConfEntry) (dir name : List ℕ) (bytes : ℕ) {r : Result Place Stat} {stat : Stat} → r ≡ Err stat →
+pub place_refused : (A : List Entry) (limits : Limits) (rows : List ConfEntry) (dir name : List ℕ) (bytes : ℕ)
+    {r : Result Place Stat} {stat : Stat} → r ≡ Err stat →
     PlaceFound A limits rows dir name bytes r → refused A limits dir name bytes ≡ Some stat
 place_refused A limits rows dir name bytes is = subst (PlaceFound A limits rows dir name bytes) is
 
-pub spot_refused : (A : List Entry) (limits : Limits) (rows : List ConfEntry) (dir name : List ℕ) (sattr : Sattr) {r : Result Spot Stat} {stat : Stat} → r ≡ Err stat →
+pub spot_refused : (A : List Entry) (limits : Limits) (rows : List ConfEntry) (dir name : List ℕ) (sattr : Sattr)
+    {r : Result Spot Stat} {stat : Stat} → r ≡ Err stat →
     SpotFound A limits rows dir name sattr r → first_of (refusals A limits (create dir name sattr)) ≡ Some stat
 spot_refused A limits rows dir name sattr is = subst (SpotFound A limits rows dir name sattr) is
 
-module _ (A : List Entry) (limits : Limits) (cred : Cred) (t : Time) (call : Call) (stat : Stat) (first : first_of (refusals A limits call) ≡ Some stat) where
+module _ (A : List Entry) (limits : Limits) (cred : Cred) (t : Time) (call : Call) (stat : Stat)
+    (first : first_of (refusals A limits call) ≡ Some stat) where
   pub refusal_answers : results.Refused stat ≡ result_of A limits cred t call
   refusal_answers = sym (answers.refused A limits cred t call stat first)
 
-  pub refusal_stands : (s s' : Option Tree) (table : ConfTable) → s' ≡ s → Stands s table A → Stands s' table (array_after A limits cred t call)
-  refusal_stands s s' table same k = subst (Stands s' table) (sym (answers.refused_array A limits cred t call stat first)) (subst (λ s. Stands s table A) (sym same) k)
+  pub refusal_stands : (s s' : Option Tree) (table : ConfTable) → s' ≡ s → Stands s table A →
+      Stands s' table (array_after A limits cred t call)
+  refusal_stands s s' table same k = subst (Stands s' table) (sym
+      (answers.refused_array A limits cred t call stat first)) (subst (λ s. Stands s table A) (sym same) k)
 
   pub refusal_told : (old : List ℕ) → old ≡ old ++ told A limits cred t call
-  refusal_told old = sym (append-nil old) ∙ ap (λ l. old ++ l) (sym (answers.refused_told A limits cred t call stat first))
+  refusal_told old = sym (append-nil old) ∙ ap (λ l. old ++ l)
+      (sym (answers.refused_told A limits cred t call stat first))
 
-  pub refusal_noticed : {M : Type 0} (noticed : M → List Entry → ℕ → M → Type 0) (saver : M) → NoticedAll noticed A saver (told A limits cred t call) saver
-  refusal_noticed noticed saver = subst (λ l. NoticedAll noticed A saver l saver) (sym (answers.refused_told A limits cred t call stat first)) refl
+  pub refusal_noticed : {M : Type 0} (noticed : M → List Entry → ℕ → M → Type 0) (saver : M) →
+      NoticedAll noticed A saver (told A limits cred t call) saver
+  refusal_noticed noticed saver = subst (λ l. NoticedAll noticed A saver l saver)
+      (sym (answers.refused_told A limits cred t call stat first)) refl

@@ -23,7 +23,8 @@ use Rattle.conf_map.proofs.Agrees.{used_agrees, nodes_few}
 use Rattle.conf_map.proofs.Resized.{file_node, stands_resized}
 use Rattle.wrap_names.specs.Files.{CanHave, CanResize, resizes}
 
-module _ (s : Server) (table : ConfTable) (A : List Entry) (size : ℕ) (o : Located) (c : CanResize s table A (Some size) o) where
+module _ (s : Server) (table : ConfTable) (A : List Entry) (size : ℕ) (o : Located)
+    (c : CanResize s table A (Some size) o) where
   abbrev i : ℕ
   i = o.index
 
@@ -39,18 +40,23 @@ module _ (s : Server) (table : ConfTable) (A : List Entry) (size : ℕ) (o : Loc
   bytes : bytes_at t h ≡ Some (bytes_of (entry_at A i))
   bytes = and_then (λ (n : Node). bytes_in n.content) (node_at t h) node.0 node.1 ∙ ap bytes_in node.2
 
-  abbrev Sized : Option Tree → Type 0
-  Sized after = after ≡ Some (edited t h (with_bytes (resized size)))
+  abbrev Sized : Tree → Unit {0} → Option Tree → Type 0
+  Sized t _ after = after ≡ Some (edited t h (with_bytes (resized size)))
 
   -- the server has room for the bytes
   enough : (b : List ℕ) → bytes_at t h ≡ Some b → ¬ (NoRoom s.limits t 0 (length b) size)
-  enough b is (inl many) = let few = nodes_few c.limits s.tree table A c.stands c.valid in let nodes = c.room.nodes in let n = c.valid.size in absurd (omega (arith, few, nodes, n, many))
+  enough b is (inl many) =
+      let few = nodes_few c.limits s.tree table A c.stands c.valid in
+      let nodes = c.room.nodes in
+      let n = c.valid.size in
+      absurd (omega (arith, few, nodes, n, many))
   enough b is (inr much) =
       let same = used_agrees c.limits s.tree table A c.stands c.valid in
       let most = c.room.bytes in
       let small = c.can_have.small in
-      let room = ltb-false c.limits.t (array.used A + size - length (bytes_of (entry_at A i))) (c.can_have.space refl) in
-      let l : length b ≡ length (bytes_of (entry_at A i)) = ap length (some_same is bytes) in
+      let before : ℕ = length (bytes_of (entry_at A i)) in
+      let room = ltb-false c.limits.t (array.used A + size - before) (c.can_have.space refl) in
+      let l : length b ≡ before = ap length (some_same is bytes) in
       let within = c.valid.room in
       absurd (omega (arith, same, most, small, room, l, within, much))
 
@@ -64,19 +70,25 @@ module _ (s : Server) (table : ConfTable) (A : List Entry) (size : ℕ) (o : Loc
 
   -- the call that gives the size can only fail
   pub resize_fails : (s' : Option Tree) (e : SrvErr) →
-      ((t : Tree) → s.tree ≡ Some t → Outcome {T = Unit {0}} (λ _ after. after ≡ Some (edited t h (with_bytes (resized size)))) (SetSizeErr s.limits h size t) t (Err e) s') → IsBroken e
-  resize_fails s' e set = failed {T = Unit {0}} (λ _. Sized) (SetSizeErr s.limits h size t) t e s' none (set t c.stands.has_tree)
+      ((t : Tree) → s.tree ≡ Some t → Outcome {T = Unit {0}} (Sized t) (SetSizeErr s.limits h size t) t (Err e) s') →
+      IsBroken e
+  resize_fails s' e set =
+      failed {T = Unit {0}} (Sized t) (SetSizeErr s.limits h size t) t e s' none (set t c.stands.has_tree)
 
   -- and they stand for the array with the file cut or filled
   pub is_resized : (s' : Option Tree) (table' : ConfTable) (time : Time) →
-      ((t : Tree) → s.tree ≡ Some t → (s' ≡ Some (edited t h (with_bytes (resized size)))) × OnlySoft (SetSizeErr s.limits h size t)) →
-      ((r : ConfEntry) → slice_get table.rows.items i ≡ Some r → table'.rows.items ≡ slice_set table.rows.items i (touched time r)) → table'.by_handle ≡ table.by_handle →
+      ((t : Tree) → s.tree ≡ Some t → Sized t tt s' × OnlySoft (SetSizeErr s.limits h size t)) →
+      ((r : ConfEntry) → slice_get table.rows.items i ≡ Some r →
+      table'.rows.items ≡ slice_set table.rows.items i (touched time r)) → table'.by_handle ≡ table.by_handle →
       Stands s' table' (changed (resizes A i (Some size) time) A)
-  is_resized s' table' time set rows by_handle = stands_resized s.tree table A c.stands i h c.live c.can_have.is_file s' table' (resized size) time (set t c.stands.has_tree).0 rows by_handle
+  is_resized s' table' time set rows by_handle = stands_resized s.tree table A c.stands i h c.live c.can_have.is_file
+      s' table' (resized size) time (set t c.stands.has_tree).0 rows by_handle
 
 -- the same, after nothing has changed, where a size is given
-pub given_resized : (s s1 : Server) (table : ConfTable) (s' : Option Tree) (table' : ConfTable) (o : Located) (size : Option ℕ) (n : ℕ) (time : Time) → size ≡ Some n → s1.tree ≡ s.tree → s1.limits ≡ s.limits →
-    ((A : List Entry) → CanResize s1 table A (Some n) o → Stands s' table' (changed (resizes A o.index (Some n) time) A)) →
+pub given_resized : (s s1 : Server) (table : ConfTable) (s' : Option Tree) (table' : ConfTable) (o : Located)
+    (size : Option ℕ) (n : ℕ) (time : Time) → size ≡ Some n → s1.tree ≡ s.tree → s1.limits ≡ s.limits →
+    ((A : List Entry) → CanResize s1 table A (Some n) o →
+    Stands s' table' (changed (resizes A o.index (Some n) time) A)) →
     (A : List Entry) → CanResize s table A size o → Stands s' table' (changed (resizes A o.index size time) A)
 given_resized s s1 table s' table' o size n time given same_tree same_limits done A c =
     subst (λ size. Stands s' table' (changed (resizes A o.index size time) A)) (sym given) (done A (record {

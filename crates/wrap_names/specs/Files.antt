@@ -47,7 +47,8 @@ pub record CanHave (A : List Entry) (limits : Limits) (i : ℕ) (size : Option �
   pub space : is_some size ≡ true → no_room A limits (length (bytes_of (entry_at A i))) (unwrap_or size 0) ≡ false
 
 -- the name leads to a file, and the call is not refused
-pub record IsOldFile (A : List Entry) (limits : Limits) (rows : List ConfEntry) (dir name : List ℕ) (sattr : Sattr) (o : Located) : Type 0 where
+pub record IsOldFile (A : List Entry) (limits : Limits) (rows : List ConfEntry) (dir name : List ℕ) (sattr : Sattr)
+    (o : Located) : Type 0 where
   pub none : first_of (refusals A limits (create dir name sattr)) ≡ None
   pub has : has_name A (at A dir) name ≡ true
   pub target : target A (at A dir) name ≡ o.index
@@ -55,7 +56,8 @@ pub record IsOldFile (A : List Entry) (limits : Limits) (rows : List ConfEntry) 
   pub can_have : CanHave A limits o.index sattr.size
 
 -- a new file has its place, and the call is not refused
-pub record IsNewFile (A : List Entry) (limits : Limits) (rows : List ConfEntry) (dir name : List ℕ) (sattr : Sattr) (p : Place) : Type 0 where
+pub record IsNewFile (A : List Entry) (limits : Limits) (rows : List ConfEntry) (dir name : List ℕ) (sattr : Sattr)
+    (p : Place) : Type 0 where
   pub none : first_of (refusals A limits (create dir name sattr)) ≡ None
   pub place : IsPlace A limits rows dir name (unwrap_or sattr.size 0) p
   pub small : unwrap_or sattr.size 0 ≤ 1048576
@@ -68,14 +70,16 @@ SpotFound A limits rows dir name sattr (Err s) = first_of (refusals A limits (cr
 
 -- a size that is given cuts or fills the file, which is written; without one nothing changes
 abbrev pub resizes : List Entry → ℕ → Option ℕ → Time → List Change
-resizes A i size t = if is_some size then to_be i (with_bytes (resized (unwrap_or size 0)) t (entry_at A i)) ∷ [] else []
+resizes A i size t =
+    if is_some size then to_be i (with_bytes (resized (unwrap_or size 0)) t (entry_at A i)) ∷ [] else []
 
 -- what is told of it
 abbrev pub told_sized : ℕ → Option ℕ → List ℕ
 told_sized i size = if is_some size then i ∷ [] else []
 
 -- A server and a table, which stand for a valid array, and in which a file can be given this size.
-pub record CanResize (server : Server) (table : ConfTable) (A : List Entry) (size : Option ℕ) (o : Located) : Type 0 where
+pub record CanResize (server : Server) (table : ConfTable) (A : List Entry) (size : Option ℕ) (o : Located)
+    : Type 0 where
   pub limits : Limits
   pub within : AreWithin limits
   pub valid : Valid limits A

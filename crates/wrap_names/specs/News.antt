@@ -26,7 +26,8 @@ HasRoomFor s bytes = IsSomeAnd s.tree (λ t. HoldsUpTo s.limits (len t.nodes + 1
 
 -- a node with the mode and the owners of these attributes
 abbrev pub node_with : ℕ → Attr → Content → Node
-node_with number attr content = record { number = number; mode = attr.mode; uid = attr.uid; gid = attr.gid; content = content }
+node_with number attr content =
+    record { number = number; mode = attr.mode; uid = attr.uid; gid = attr.gid; content = content }
 
 -- A directory of the tree has a new name, which leads to this node, of a new handle and a new number.
 pub record IsMade (t : Tree) (dir name h : List ℕ) (node : Node) (t' : Tree) : Type 0 where
@@ -46,7 +47,8 @@ pub record IsBegun (t : Tree) (dir name h : List ℕ) (content : Content) (s : O
 
 -- one row is that of an object that was written, and one is new
 pub record AddsRow (old new : ConfTable) (d i : ℕ) (row : ConfEntry) (t : Time) : Type 0 where
-  pub rows : (r : ConfEntry) → slice_get old.rows.items d ≡ Some r → new.rows.items ≡ slice_set (slice_set old.rows.items d (touched t r)) i row
+  pub rows : (r : ConfEntry) → slice_get old.rows.items d ≡ Some r →
+      new.rows.items ≡ slice_set (slice_set old.rows.items d (touched t r)) i row
   pub in_step : IsInStep old → IsInStep new
 
 -- a directory is written, and an object takes an index
@@ -60,7 +62,8 @@ abbrev pub with_new : List Entry → Place → List ℕ → Time → Object → 
 with_new A p name t new = changed (added A p.dir.index p.index name t new) A
 
 -- tree and table stand for the array with the new object, which is live at its index
-pub record IsAdded (A : List Entry) (p : Place) (name : List ℕ) (t : Time) (new : Object) (tree : Option Tree) (table : ConfTable) (at : Located) : Type 0 where
+pub record IsAdded (A : List Entry) (p : Place) (name : List ℕ) (t : Time) (new : Object) (tree : Option Tree)
+    (table : ConfTable) (at : Located) : Type 0 where
   pub stands : Stands tree table (with_new A p name t new)
   pub live : IsLive table.rows.items at
   pub index : at.index ≡ p.index

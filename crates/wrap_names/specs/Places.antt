@@ -53,7 +53,8 @@ IndexFound A limits bytes None = no_new A limits bytes ≡ true
 IndexFound A limits bytes (Some index) = IsIndex A limits bytes index
 
 -- the directory of a call lacks the name, and a new object of so many bytes has its index and its space
-pub record IsPlace (A : List Entry) (limits : Limits) (rows : List ConfEntry) (dir name : List ℕ) (bytes : ℕ) (p : Place) : Type 0 where
+pub record IsPlace (A : List Entry) (limits : Limits) (rows : List ConfEntry) (dir name : List ℕ) (bytes : ℕ)
+    (p : Place) : Type 0 where
   pub in_dir : IsDirCall A rows dir name p.dir
   pub no_dot : is_dot name ≡ false
   pub good : is_name name ≡ true
@@ -66,7 +67,8 @@ PlaceFound A limits rows dir name bytes (Ok p) = IsPlace A limits rows dir name 
 PlaceFound A limits rows dir name bytes (Err s) = refused A limits dir name bytes ≡ Some s
 
 -- A server and a table, which stand for a valid array, and in which a new object can have its place.
-pub record CanAdd (server : Server) (table : ConfTable) (A : List Entry) (name : List ℕ) (new : New) (p : Place) : Type 0 where
+pub record CanAdd (server : Server) (table : ConfTable) (A : List Entry) (name : List ℕ) (new : New)
+    (p : Place) : Type 0 where
   pub limits : Limits
   pub within : AreWithin limits
   pub valid : Valid limits A
