@@ -17,7 +17,7 @@ use conf_map::{Modify, node_of};
 use nfs2_types::{Cred, Handle, Limits, NfsResult, Sattr, Time};
 use server_trait::{ConfTable, FileServer, Srv, WrapErr};
 
-/// Makes a file, or gives a file that is there its size. A present file keeps all other attributes.
+/// Makes a file, or gives a file that is there its size. A present file keeps its mode and its owners.
 pub fn create<M: Modify>(
     server: &mut Srv,
     table: &mut ConfTable,
