@@ -1,6 +1,6 @@
 //! Calls on directories, with their replies word for word (RFC 1094, 2.2).
 
-use super::{END, RUN_ALL, WHOLE, header, log_of, make_dir, run};
+use super::{END, LIMITS, RUN_ALL, WHOLE, header, log_of, make_dir, run_in};
 use crate::status::Status;
 use std::alloc::Global;
 use std::test::Fail;
@@ -24,7 +24,7 @@ const SET_ATTR: [u32; 31] = [
 /// What two requests print, each run at once.
 fn printed(alloc: Global, first: &[u32], second: &[u32]) -> Result<Vec<u8>, Fail> {
     let parts: [&[u32]; 6] = [&header(1024), first, &[RUN_ALL], second, &[RUN_ALL], &[END]];
-    let (status, text) = run(alloc, log_of(alloc, &parts)?, WHOLE)?;
+    let (status, text) = run_in(alloc, log_of(alloc, &parts)?, WHOLE, LIMITS)?;
     if status != Status::Done {
         return Err("not done".into());
     }
