@@ -104,5 +104,6 @@ pub fn filled(alloc: Global, service: &mut Service) -> Result<(), Fail>
     service.gives(alloc, 0, 14, &[&INNER, &[1, 0x6b000000], &KEEP])?;
     service.gives(alloc, 0, 14, &[&INNER, &[1, 0x6c000000], &KEEP])?;
     service.gives(alloc, 0, 14, &[&INNER, &[1, 0x6d000000], &KEEP])?;
-    service.gives(alloc, 28, 14, &[&INNER, &[1, 0x7a000000], &KEEP])
+    service.gives(alloc, 28, 14, &[&INNER, &[1, 0x7a000000], &KEEP])?;
+    service.gives(alloc, 28, 13, &[&INNER, &[1, 0x7a000000], &A, &KEEP])
 }

@@ -100,5 +100,6 @@ pub fn set(alloc: Global, service: &mut Service) -> Result<(), Fail>
     service.gives(alloc, 70, 5, &[&STALE])?;
     service.gives(alloc, 0, 16, &[&ROOT, &[0, 4096]])?;
     service.gives(alloc, 20, 16, &[&FILE, &[0, 4096]])?;
-    service.gives(alloc, 20, 4, &[&FILE, &A])
+    service.gives(alloc, 20, 4, &[&FILE, &A])?;
+    service.gives(alloc, 20, 14, &[&FILE, &M, &KEEP])
 }
