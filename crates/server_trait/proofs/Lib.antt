@@ -1,5 +1,7 @@
 pub mod CountLaws
 pub mod KeyedSums
+pub mod NameSoftLaws
+pub mod OrderLaws
 pub mod SoftLaws
 pub mod SumLaws
 pub mod TreeLaws

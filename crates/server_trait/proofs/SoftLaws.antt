@@ -15,10 +15,10 @@ some_of None h = absurd (let bad : false ≡ true = h in cc)
 some_of (Some x) h = (x, refl)
 
 module _ {X : Type 0} (view : Content → Option X) (t : Tree) (h : List ℕ) (x : X) (is : option_and_then (λ (n : Node). view n.content) (node_at t h) ≡ Some x) where
-  not_stale : IsStale t h → ⊥
+  pub not_stale : IsStale t h → ⊥
   not_stale s = let n = and_then_some (λ (n : Node). view n.content) (node_at t h) x is in some_none n.1 s
 
-  not_other : IsNo view t h → ⊥
+  pub not_other : IsNo view t h → ⊥
   not_other s =
       let n = and_then_some (λ (n : Node). view n.content) (node_at t h) x is in
       let m = some_and (node_at t h) (λ (n : Node). view n.content ≡ None) s in
@@ -59,7 +59,7 @@ dir_soft t dir m is e a = absurd a
 pub dir_of_target : (t : Tree) (dir name h : List ℕ) → target t dir name ≡ Some h → (m : Names) × (names_at t dir ≡ Some m) × (get m name ≡ Some h)
 dir_of_target t dir name h is = and_then_some (λ (m : Names). get m name) (names_at t dir) h is
 
-has_not_lacks : (t : Tree) (dir name h : List ℕ) → target t dir name ≡ Some h → LacksName t dir name → ⊥
+pub has_not_lacks : (t : Tree) (dir name h : List ℕ) → target t dir name ≡ Some h → LacksName t dir name → ⊥
 has_not_lacks t dir name h is l =
     let m = dir_of_target t dir name h is in
     let k = some_and (names_at t dir) (λ m. get m name ≡ None) l in

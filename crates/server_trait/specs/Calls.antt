@@ -1,12 +1,12 @@
 -- What each call of a file server may do: which errors apply to it, and what its Ok has done.
-use Rattle.std.specs.Prelude.{◌≡◌, ◌≢◌, max, ℕ, ◌+◌, ◌≤◌, ◌<◌, List, [], length, take, drop, Option, Some, None, option_map, Result, Ok, Err, IsSomeAnd, slice_get, Vec}
+use Rattle.std.specs.Prelude.{◌≡◌, ◌≢◌, ◌⊎◌, max, ℕ, ◌+◌, ◌≤◌, ◌<◌, List, [], length, take, drop, Option, Some, None, option_map, Result, Ok, Err, IsSome, IsSomeAnd, slice_get, Vec, if◌then◌else◌, bytes_eq}
 use Rattle.std.specs.FinMap.{get, insert, empty}
 use Rattle.std.specs.declared.alloc.Global.{Global}
 use Rattle.nfs2_types.specs.Bytes.{resized, overwritten}
-use Rattle.server_trait.specs.Tree.{Tree, Node, Names, Content, BytesOf, TextOf, NamesOf, Server, node_at, bytes_in, text_in, names_in, bytes_at, text_at, names_at, target, kind_of, size_of, links_of, new_node, with_attr, with_bytes, with_node, edited, named}
-use Rattle.server_trait.specs.Step.{Counts, Outcome, Called, IsStale, IsNo, HasName, LacksName, NoRoom}
+use Rattle.server_trait.specs.Tree.{Tree, Node, Names, Content, BytesOf, TextOf, NamesOf, Server, node_at, bytes_in, text_in, names_in, bytes_at, text_at, names_at, target, kind_of, size_of, links_of, new_node, with_attr, with_bytes, with_node, edited, named, unnamed, let_go}
+use Rattle.server_trait.specs.Step.{Counts, Outcome, Called, IsStale, IsNo, HasName, LacksName, HasNames, IsAtOrBelow, NoRoom}
 use Rattle.server_trait.specs.declared.server.SrvErr.{SrvErr}
-use Rattle.server_trait.specs.declared.server.SrvErr.TheVariants.{Stale, NoEnt, Exists, NotDir, WrongKind, Refused, Full, Fault, NoMemory}
+use Rattle.server_trait.specs.declared.server.SrvErr.TheVariants.{Stale, NoEnt, Exists, NotDir, WrongKind, NotEmpty, Subtree, Refused, Full, Fault, NoMemory}
 use Rattle.server_trait.specs.declared.server.ServerLimits.{ServerLimits}
 use Rattle.server_trait.specs.declared.server.NodeAttr.{NodeAttr}
 use Rattle.server_trait.specs.declared.server.Listed.{Listed}
@@ -138,6 +138,82 @@ Mkdir old dir name r new = Make (NamesOf empty) 0 old dir name r new
 -- `symlink`: a link with its text
 abbrev pub Symlink : Server → List ℕ → List ℕ → List ℕ → Result (List ℕ) SrvErr → Server → Type 0
 Symlink old dir name text r new = Make (TextOf text) (length text) old dir name r new
+
+-- there is a directory under the handle
+abbrev pub IsDir : Tree → List ℕ → Type 0
+IsDir t h = IsSome (names_at t h)
+
+-- the errors of a call that gives a node one name more
+abbrev pub LinkErr : ServerLimits → List ℕ → List ℕ → List ℕ → Tree → SrvErr → Type 0
+LinkErr limits h dir name t Stale = IsStale t h ⊎ IsStale t dir
+LinkErr limits h dir name t NotDir = IsNo names_in t dir
+LinkErr limits h dir name t WrongKind = IsDir t h
+LinkErr limits h dir name t Exists = HasName t dir name
+LinkErr limits h dir name t Full = NoRoom limits t 0 0 512
+LinkErr limits h dir name t e = ⊥
+
+-- `link`: the name leads to the node
+abbrev pub Link : Server → List ℕ → List ℕ → List ℕ → Result Unit SrvErr → Server → Type 0
+Link old h dir name r new = Called (λ t. Outcome (λ _ after. after ≡ Some (named t dir name h)) (LinkErr old.limits h dir name t) t) old r new
+
+-- NAMES THAT GO
+
+-- the name goes, and with its last name the node
+abbrev pub Removed : Tree → List ℕ → List ℕ → Option Tree → Type 0
+Removed t dir name new = IsSomeAnd (target t dir name) (λ h. new ≡ Some (let_go (unnamed t dir name) h))
+
+-- the errors of a call that takes out a name of a file or a link
+abbrev pub RemoveErr : List ℕ → List ℕ → Tree → SrvErr → Type 0
+RemoveErr dir name t WrongKind = IsSomeAnd (target t dir name) (IsDir t)
+RemoveErr dir name t e = LookupErr dir name t e
+
+-- `remove`
+abbrev pub Remove : Server → List ℕ → List ℕ → Result Unit SrvErr → Server → Type 0
+Remove old dir name r new = Called (λ t. Outcome (λ _. Removed t dir name) (RemoveErr dir name t) t) old r new
+
+-- the errors of a call that takes out the name of a directory
+abbrev pub RmdirErr : List ℕ → List ℕ → Tree → SrvErr → Type 0
+RmdirErr dir name t NotDir = IsNo names_in t dir ⊎ IsSomeAnd (target t dir name) (IsNo names_in t)
+RmdirErr dir name t NotEmpty = IsSomeAnd (target t dir name) (HasNames t)
+RmdirErr dir name t e = LookupErr dir name t e
+
+-- `rmdir`
+abbrev pub Rmdir : Server → List ℕ → List ℕ → Result Unit SrvErr → Server → Type 0
+Rmdir old dir name r new = Called (λ t. Outcome (λ _. Removed t dir name) (RmdirErr dir name t) t) old r new
+
+-- NAMES THAT MOVE
+
+-- a name leads to one node, and another name, to which it is to move, to another
+pub record Replaces (P : List ℕ → List ℕ → Type 0) (t : Tree) (from name to to_name : List ℕ) : Type 0 where
+  pub moved : List ℕ
+  pub replaced : List ℕ
+  pub is_moved : target t from name ≡ Some moved
+  pub is_replaced : target t to to_name ≡ Some replaced
+  pub apart : replaced ≢ moved
+  pub holds : P moved replaced
+
+-- the errors of a call that moves a name: a directory replaces only an empty directory, and does not move below itself
+abbrev pub RenameErr : List ℕ → List ℕ → List ℕ → List ℕ → Tree → SrvErr → Type 0
+RenameErr from name to to_name t Stale = IsStale t from ⊎ IsStale t to
+RenameErr from name to to_name t NotDir = (IsNo names_in t from ⊎ IsNo names_in t to) ⊎ Replaces (λ h r. IsDir t h × IsNo names_in t r) t from name to to_name
+RenameErr from name to to_name t NoEnt = LacksName t from name
+RenameErr from name to to_name t WrongKind = Replaces (λ h r. IsNo names_in t h × IsDir t r) t from name to to_name
+RenameErr from name to to_name t NotEmpty = Replaces (λ _ r. HasNames t r) t from name to to_name
+RenameErr from name to to_name t Subtree = IsSomeAnd (target t from name) (λ h. IsDir t h × IsAtOrBelow t h to)
+RenameErr from name to to_name t Refused = HasName t to to_name
+RenameErr from name to to_name t e = ⊥
+
+-- The first name goes and the second leads to its node. A node that it led to loses this name. Where both names are of
+-- one node nothing changes.
+abbrev pub renamed : Tree → List ℕ → List ℕ → List ℕ → List ℕ → List ℕ → Tree
+renamed t from name to to_name h = elim (target t to to_name) [
+  | None ↦ named (unnamed t from name) to to_name h
+  | Some r ↦ if bytes_eq r h then t else let_go (named (unnamed t from name) to to_name h) r
+]
+
+-- `rename`
+abbrev pub Rename : Server → List ℕ → List ℕ → List ℕ → List ℕ → Result Unit SrvErr → Server → Type 0
+Rename old from name to to_name r new = Called (λ t. Outcome (λ _ after. IsSomeAnd (target t from name) (λ h. after ≡ Some (renamed t from name to to_name h))) (RenameErr from name to to_name t) t) old r new
 
 -- THE WHOLE SERVER
 

@@ -4,7 +4,7 @@ ghost use Rattle.std.specs.Prelude.{◌≡◌, ◌≤◌, ◌+◌, true, length}
 ghost use Rattle.nfs2_types.specs.Names.{is_name};
 ghost use Rattle.server_trait.specs.Tree.{Server};
 ghost use Rattle.server_trait.specs.Step.{HasTree};
-ghost use Rattle.server_trait.specs.Calls.{RootIs, Attr, SetAttr, Read, ReadLink, Write, SetSize, Lookup, ListNames, Create, Mkdir, Symlink, Wipe};
+ghost use Rattle.server_trait.specs.Calls.{RootIs, Attr, SetAttr, Read, ReadLink, Write, SetSize, Lookup, ListNames, Create, Mkdir, Symlink, Link, Remove, Rmdir, Rename, Wipe};
 
 use nfs2_types::{Blob, Handle, Kind, Time};
 use std::alloc::Global;
@@ -144,6 +144,39 @@ pub trait FileServer: Drop {
         requires text { length text.now ≤ 1024 }
         ensures { Symlink (state self.old) dir.now name.now text.now result (state self.new) };
 
+    /// Gives a file or a link one name more. Errors: Stale, WrongKind for a directory, NotDir, Exists, Full.
+    fn link(&mut self, node: &Handle, dir: &Handle, name: &[u8]) -> Result<(), SrvErr>
+        requires tree { HasTree (state self.old) }
+        requires name { is_name name.now ≡ true }
+        ensures { Link (state self.old) node.now dir.now name.now result (state self.new) };
+
+    /// Takes out a name of a file or a link, which goes with its last name. Errors: Stale, NotDir, NoEnt, WrongKind.
+    fn remove(&mut self, dir: &Handle, name: &[u8]) -> Result<(), SrvErr>
+        requires tree { HasTree (state self.old) }
+        requires name { is_name name.now ≡ true }
+        ensures { Remove (state self.old) dir.now name.now result (state self.new) };
+
+    /// Takes out an empty directory and its name. Errors: Stale, NotDir, NoEnt, NotEmpty.
+    fn rmdir(&mut self, dir: &Handle, name: &[u8]) -> Result<(), SrvErr>
+        requires tree { HasTree (state self.old) }
+        requires name { is_name name.now ≡ true }
+        ensures { Rmdir (state self.old) dir.now name.now result (state self.new) };
+
+    /// Moves a name of one directory to a name of another. What the second name led to is replaced; where both names are
+    /// of one node nothing changes. Errors: Stale, NotDir, NoEnt, WrongKind, NotEmpty, Subtree, and Refused where the
+    /// second name is there.
+    fn rename(
+        &mut self,
+        from: &Handle,
+        name: &[u8],
+        to: &Handle,
+        to_name: &[u8],
+    ) -> Result<(), SrvErr>
+        requires tree { HasTree (state self.old) }
+        requires name { is_name name.now ≡ true }
+        requires to_name { is_name to_name.now ≡ true }
+        ensures { Rename (state self.old) from.now name.now to.now to_name.now result (state self.new) };
+
     /// Makes an empty root, whatever was there. It works in any state.
     fn wipe(&mut self) -> Result<(), SrvErr>
         ensures { Wipe (state self.old) result (state self.new) };
@@ -206,6 +239,28 @@ impl FileServer for Srv {
 
     fn symlink(&mut self, dir: &Handle, name: &[u8], text: &[u8]) -> Result<Handle, SrvErr> {
         (**self).symlink(dir, name, text)
+    }
+
+    fn link(&mut self, node: &Handle, dir: &Handle, name: &[u8]) -> Result<(), SrvErr> {
+        (**self).link(node, dir, name)
+    }
+
+    fn remove(&mut self, dir: &Handle, name: &[u8]) -> Result<(), SrvErr> {
+        (**self).remove(dir, name)
+    }
+
+    fn rmdir(&mut self, dir: &Handle, name: &[u8]) -> Result<(), SrvErr> {
+        (**self).rmdir(dir, name)
+    }
+
+    fn rename(
+        &mut self,
+        from: &Handle,
+        name: &[u8],
+        to: &Handle,
+        to_name: &[u8],
+    ) -> Result<(), SrvErr> {
+        (**self).rename(from, name, to, to_name)
     }
 
     fn wipe(&mut self) -> Result<(), SrvErr> {
