@@ -9,6 +9,7 @@ pub mod Fattrs
 pub mod Frames
 pub mod FreshTable
 pub mod FreshTree
+pub mod Gone
 pub mod InStep
 pub mod Kept
 pub mod LiveRows

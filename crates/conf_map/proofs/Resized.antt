@@ -1,10 +1,9 @@
 -- A live file gets other bytes, and is written at a moment.
-use Rattle.std.proofs.Common.{◌≡◌, ℕ, true, false, List, [], length, set, Option, Some, slice_get, slice_set, refl, sym, ap, ◌∙◌, subst}
-use Rattle.std.proofs.lemmas.List.{length-set}
+use Rattle.std.proofs.Common.{◌≡◌, ℕ, true, false, List, [], set, Option, Some, slice_get, slice_set, refl, sym, ap, ◌∙◌, subst}
 use Rattle.nfs2_types.specs.declared.Time.{Time}
 use Rattle.server_trait.specs.Tree.{Tree, Node, BytesOf, node_at, edited}
 use Rattle.server_trait.specs.Tree as tree
-use Rattle.server_trait.proofs.TreeLaws.{root-edited, node_at-edited_same, node_at-edited_other}
+use Rattle.server_trait.proofs.TreeLaws.{some_same}
 use Rattle.server_trait.specs.declared.bench.ConfEntry.{ConfEntry}
 use Rattle.server_trait.specs.declared.bench.ConfTable.{ConfTable}
 use Rattle.abs_model.specs.declared.entry.Object.{Object}
@@ -14,12 +13,11 @@ use Rattle.abs_model.specs.Objects.{is_file, attr_of, bytes_of, names_of, is_dir
 use Rattle.abs_model.specs.Array.{entry_at}
 use Rattle.abs_model.specs.Machine.{with_bytes}
 use Rattle.conf_map.specs.Stands.{handle_at, SameContent, Stands}
-use Rattle.conf_map.specs.Moves.{IsAt, ChangesNode}
+use Rattle.conf_map.specs.Moves.{IsAt}
 use Rattle.conf_map.specs.Tables.{touched}
 use Rattle.conf_map.proofs.Frames.{entry_at-some}
-use Rattle.conf_map.proofs.InStep.{slice_get-set_same, slice_get-set_other}
-use Rattle.conf_map.proofs.Kept.{stands_changed}
-use Rattle.conf_map.proofs.LiveRows.{at_handle, same_attr, same_content}
+use Rattle.conf_map.proofs.LiveRows.{at_handle, same_content}
+use Rattle.conf_map.proofs.ObjectChanges.{ChangesAlike, stands_alike}
 
 -- a file is its attributes and its bytes
 pub file_parts : (g : ℕ) (o : Object) → is_file (record { generation = g; object = o }) ≡ true →
@@ -68,72 +66,29 @@ module _ (s : Option Tree) (table : ConfTable) (A : List Entry) (st : Stands s t
       (rows : (r : ConfEntry) → slice_get table.rows.items i ≡ Some r →
       table'.rows.items ≡ slice_set table.rows.items i (touched t r)) (by_handle : table'.by_handle ≡ table.by_handle)
     where
-      abbrev r : ConfEntry
-      r = at_file.0
-
-      abbrev n : Node
-      n = at_file.1
-
-      abbrev t' : Tree
-      t' = edited st.tree h (tree.with_bytes f)
-
-      abbrev A' : List Entry
-      A' = set A i (with_bytes f t e)
-
-      now : table'.rows.items ≡ slice_set table.rows.items i (touched t r)
-      now = rows r at_file.2.is_row
-
-      changes : ChangesNode st.tree table A i t' table' A'
-      changes =
-          let old = same_attr s table A st i h r n e at_file.2 in
-          let node_now = node_at-edited_same st.tree h (tree.with_bytes f) n at_file.2.is_node in
-          record {
-            handle = h;
-            row = r;
-            row' = touched t r;
-            node = n;
-            node' = tree.with_bytes f n;
-            entry = e;
-            entry' = with_bytes f t e;
-            before = at_file.2;
-            root = root-edited st.tree h (tree.with_bytes f);
-            node_now = node_now;
-            nodes = node_at-edited_other st.tree h (tree.with_bytes f);
-            number = refl;
-            rows = record {
-              size = ap length now ∙ length-set table.rows.items i (touched t r);
-              here = ap (λ l. slice_get l i) now ∙ slice_get-set_same table.rows.items i (touched t r) r at_file.2.is_row;
-              others = λ j ne. ap (λ l. slice_get l j) now ∙ slice_get-set_other table.rows.items i j (touched t r) ne;
-            };
-            same_row = record { generation = refl; handle = refl; number = refl };
-            parent = refl;
-            by_handle = by_handle;
-            array = record {
-              size = length-set A i (with_bytes f t e);
-              here = slice_get-set_same A i (with_bytes f t e) e at_file.2.is_entry;
-              others = λ j ne. slice_get-set_other A i j (with_bytes f t e) ne;
-            };
-            generation = refl;
-            names = file_names e.generation e.object file;
-            dir = sym (file_no_dir e.generation e.object file);
-            object = record {
-              handle = h;
-              node = tree.with_bytes f n;
-              is_handle = at_file.2.is_handle;
-              is_node = node_now;
-              attr = record {
-                number = old.number;
-                mode = old.mode;
-                uid = old.uid;
-                gid = old.gid;
-                atime = old.atime;
-                mtime = refl;
-                ctime = refl;
-              };
-              content = ap (λ c. (tree.with_bytes f (record n { content = c })).content) content;
-            };
-          }
+      alike : ChangesAlike table.rows.items e (with_bytes f t e) (tree.with_bytes f) (touched t)
+      alike = record {
+        number = λ _. refl;
+        same_row = λ _. record { generation = refl; handle = refl; number = refl };
+        parent = λ _. refl;
+        generation = refl;
+        names = file_names e.generation e.object file;
+        dir = sym (file_no_dir e.generation e.object file);
+        live = refl;
+        attr = λ r n k. record {
+          number = k.number;
+          mode = k.mode;
+          uid = k.uid;
+          gid = k.gid;
+          atime = k.atime;
+          mtime = refl;
+          ctime = refl;
+        };
+        content = λ n k. ap (λ c. (tree.with_bytes f (record n { content = c })).content)
+            (subst (λ o. SameContent table.rows.items o n.content) (file_parts e.generation e.object file) k);
+      }
 
       -- they stand for the array with the other bytes
       pub stands_resized : Stands s' table' (set A i (with_bytes f t (entry_at A i)))
-      stands_resized = stands_changed s s' table table' A A' t' i st changes has
+      stands_resized = stands_alike s table A st i h live s' table' (with_bytes f t e) (tree.with_bytes f) (touched t) alike
+          (λ u is. has ∙ ap (λ x. Some (edited x h (tree.with_bytes f))) (some_same st.has_tree is)) rows by_handle

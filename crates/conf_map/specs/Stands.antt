@@ -39,7 +39,7 @@ abbrev pub DifferInNumber : Tree → Type 0
 DifferInNumber t = (p q : List ℕ) (m n : Node) → node_at t p ≡ Some m → node_at t q ≡ Some n → m.number ≡ n.number → p ≡ q
 
 -- Besides the root and an empty staging directory, each node has its row, and each handle of a row is
--- that of a node. The node of row 0 is the export directory. `by_handle` has the row of each handle.
+-- that of a node. The node of the first row is the export directory. `by_handle` has the row of each handle.
 pub record Placed (t : Tree) (table : ConfTable) : Type 0 where
   pub export : List ℕ
   pub staging : List ℕ
