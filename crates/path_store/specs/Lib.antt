@@ -1,0 +1,4 @@
+pub mod Changes
+pub mod Placed
+pub mod Stored
+pub mod Walks
