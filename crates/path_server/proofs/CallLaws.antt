@@ -18,11 +18,11 @@ use Rattle.server_trait.proofs.TreeLaws.{is_some_and, some_and}
 use Rattle.server_trait.proofs.SoftLaws.{node_soft, dir_soft, lookup_soft, make_soft}
 use Rattle.path_server.specs.Bytes.{bytes_under, content_of}
 use Rattle.path_server.specs.Kept.{Kept, IsFound, IsFoundDir, the_tree, tree_of}
-use Rattle.path_server.specs.Paths.{names_of}
+use Rattle.path_store.specs.Stored.{names_of}
 use Rattle.path_server.specs.Sound.{IsSound}
 use Rattle.path_server.specs.declared.node.PathNode.{PathNode}
 use Rattle.path_server.proofs.ContentLaws.{its_kind, no_names}
-use Rattle.path_server.proofs.NameLaws.{get-names_of}
+use Rattle.path_store.proofs.NameLaws.{get-names_of}
 use Rattle.path_server.proofs.NodeLaws.{len-nodes_of, node_at-kept, node_at-none, node_here}
 use Rattle.path_server.proofs.SoundLaws.{fits, target_is, names_at-is}
 
@@ -77,7 +77,7 @@ module _ (held : Bool) (limits : ServerLimits) (next bytes : ℕ) (k : Kept) (so
     stays there,
   ))
 
-  told_not_dir : (h : List ℕ) → IsSomeAnd (get k.nodes h) (λ p. p.kind ≢ Dir) → (t : Tree) →
+  pub told_not_dir : (h : List ℕ) → IsSomeAnd (get k.nodes h) (λ p. p.kind ≢ Dir) → (t : Tree) →
       tree_of held k ≡ Some t → IsNo names_in t h × (tree_of held k ≡ Some t)
   told_not_dir h other = held_tree held now (λ t. IsNo names_in t h × (tree_of held k ≡ Some t)) (λ there. (
     no_view
@@ -159,7 +159,7 @@ module _ (held : Bool) (limits : ServerLimits) (next bytes : ℕ) (k : Kept) (so
     faults = refl;
   }
 
-  lacks : (h name : List ℕ) (p : PathNode) → held ≡ true → (get k.nodes h ≡ Some p) × (p.kind ≡ Dir) →
+  pub lacks : (h name : List ℕ) (p : PathNode) → held ≡ true → (get k.nodes h ≡ Some p) × (p.kind ≡ Dir) →
       get k.paths (h ++ name) ≡ None → LacksName now h name
   lacks h name p there is none =
       is_some_and (λ (m : Names). get m name ≡ None) (names_at-is limits next bytes k (sound there) h p is.0 is.1)

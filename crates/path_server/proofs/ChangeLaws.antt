@@ -1,5 +1,5 @@
 -- A server that starts afresh, and one whose node has other attributes.
-use Rattle.std.proofs.Common.{inl, inr, ◌≡◌, ℕ, ◌+◌, ◌<◌, Bool, cond, List, [], Some, None, IsSome, is_some, Ok, refl, sym, ap, ◌∙◌, subst, arith}
+use Rattle.std.proofs.Common.{inl, inr, ◌≡◌, ◌↔◌, ℕ, ◌+◌, ◌<◌, ◌≤◌, Bool, cond, List, [], take, Some, None, IsSome, IsSomeAnd, is_some, Ok, refl, sym, ap, ◌∙◌, subst, arith}
 use Rattle.std.specs.Option.{option_map}
 use Rattle.std.specs.Ordering.{nat_cmp}
 use Rattle.std.specs.Cmp.Lexicographic.{slice_cmp, nat_list_cmp_total}
@@ -10,20 +10,23 @@ use Rattle.server_trait.specs.Step.{OnlySoft}
 use Rattle.server_trait.specs.Calls.{IsFresh, SetAttr, NodeErr}
 use Rattle.server_trait.specs.declared.server.ServerLimits.{ServerLimits}
 use Rattle.server_trait.proofs.CountLaws.{links-edited, links-with_node, subdirs-most}
-use Rattle.server_trait.proofs.TreeLaws.{some_none, bytes_or_not, get-insert_same, get-insert_other, edited-some, used-edited, used-with_node, links-none, target_found}
+use Rattle.server_trait.proofs.TreeLaws.{some_none, is_some_and, bytes_or_not, get-insert_same, get-insert_other, edited-some, used-edited, used-with_node, links-none, target_found}
 use Rattle.server_trait.proofs.SumLaws.{total-none}
 use Rattle.server_trait.proofs.SoftLaws.{node_soft}
 use Rattle.path_server.specs.Bytes.{Contents}
 use Rattle.path_server.specs.Kept.{Kept, kept_as, full_node, nodes_of, the_tree, tree_of}
 use Rattle.path_server.specs.Nodes.{made_node, set_node}
-use Rattle.path_server.specs.Paths.{Paths, serial_bytes, names_of}
-use Rattle.path_server.specs.Sound.{IsSound, IsCounted}
+use Rattle.path_store.specs.Stored.{Paths, Stored, names_of, only_root}
+use Rattle.path_server.specs.Serials.{serial_bytes}
+use Rattle.path_server.specs.Sound.{IsSound, IsStored, IsCounted}
 use Rattle.path_server.specs.declared.node.PathNode.{PathNode}
-use Rattle.path_server.proofs.Rows.{bytes_exact}
+use Rattle.path_store.proofs.Rows.{bytes_exact}
 use Rattle.path_server.proofs.ContentLaws.{names_to-new}
 use Rattle.path_server.proofs.CountedLaws.{counted_same}
-use Rattle.path_server.proofs.NameLaws.{names_of-none}
+use Rattle.path_store.proofs.NameLaws.{names_of-none}
+use Rattle.path_server.proofs.NamedLaws.{IsDirNode, is_some_none, is_and_none, dir_same}
 use Rattle.path_server.proofs.NodeLaws.{get-nodes_of, node_at-kept, node_here, kind_at}
+use Rattle.path_server.proofs.StoredLaws.{stored_put}
 use Rattle.path_server.proofs.Serials.{length-serial_bytes}
 use Rattle.path_server.proofs.CallLaws.{held_tree}
 
@@ -128,7 +131,7 @@ module _ (number : ℕ) (contents : Contents) where
   sound_fresh : (limits : ServerLimits) → IsSound limits (number + 1) 0 kept_fresh
   sound_fresh limits = record {
     serials = at_root (λ q x. (q ≡ serial_bytes x.number) × (x.number < number + 1)) (refl, omega arith);
-    named = λ dir name h fits at. absurd (some_none at (get-empty (slice_cmp nat_cmp) _));
+    named = λ key h at. absurd (some_none at (get-empty (slice_cmp nat_cmp) key));
     counted = at_root (IsCounted kept_fresh) counted_fresh;
     bytes_used = sym used_fresh;
     bytes_most = omega arith;
@@ -138,12 +141,37 @@ module _ (number : ℕ) (contents : Contents) where
         ∙ ap (λ n. n + 1) (len-empty (slice_cmp nat_cmp) PathNode) in omega (arith, one);
   }
 
+  abbrev root_path : ByBytes (List ℕ)
+  root_path = insert empty root []
+
+  -- a store that has the root alone
+  stored_fresh : IsStored kept_fresh.nodes (only_root root)
+  stored_fresh = record {
+    whole = refl;
+    dirs = λ q. elim (bytes_or_not q root) as (λ _. IsSome (get root_path q) ↔ IsSomeAnd (get kept_fresh.nodes q)
+        IsDirNode) [
+          | inl same ↦ (
+            λ _. is_some_and IsDirNode (ap (get kept_fresh.nodes) same ∙ get-insert_same empty root first_node) refl,
+            λ _. ap is_some (ap (get root_path) same ∙ get-insert_same empty root []),
+          )
+          | inr ne ↦ (
+            λ there. absurd (is_some_none there (get-insert_other empty root [] q ne ∙ get-empty (slice_cmp nat_cmp) q)),
+            λ there. absurd (is_and_none (get kept_fresh.nodes q) IsDirNode there (get-insert_other empty root first_node q
+                ne ∙ get-empty (slice_cmp nat_cmp) q)),
+          )
+        ];
+    once = at_root (λ q x. x.kind ≡ Dir → x.links ≤ 1) (λ _. omega arith);
+  }
+
 -- the same, of what a server came to
 module _ (number : ℕ) (root : List ℕ) (nodes : ByBytes PathNode) (contents : Contents) (paths : Paths) (is_root :
     root ≡ serial_bytes number) (is_nodes : nodes ≡ insert empty root (made_node Dir number 0)) (is_paths : paths ≡
     empty) where
   pub fresh_after : IsFresh (Some (the_tree (kept_as root nodes contents paths)))
   fresh_after = rw (is_nodes, is_paths, is_root) (fresh number contents)
+
+  pub stored_started : (store : Stored) → store ≡ only_root root → IsStored nodes store
+  stored_started store is_store = rw (is_nodes, is_store, is_root) (stored_fresh number contents)
 
   pub sound_started : (limits : ServerLimits) (next : ℕ) → next ≡ number + 1 →
       IsSound limits next 0 (kept_as root nodes contents paths)
@@ -193,6 +221,12 @@ module _ (limits : ServerLimits) (next bytes : ℕ) (k : Kept) (h : List ℕ) (p
     | inr ne ↦ ap (option_map (λ (p : PathNode). p.kind)) (get-insert_other k.nodes h changed q ne)
   ]
 
+  dirs_set : (q : List ℕ) → IsSomeAnd (get k.nodes q) IsDirNode → IsSomeAnd (get (insert k.nodes h changed) q) IsDirNode
+  dirs_set q = dir_same (get k.nodes q) (get (insert k.nodes h changed) q) (sym (kinds_set q))
+
+  pub stored_set : (store : Stored) → IsStored k.nodes store → IsStored (insert k.nodes h changed) store
+  stored_set store stored = stored_put k.nodes h changed store p is refl refl stored
+
   links_set : (q : List ℕ) → links (the_tree kept_set) q ≡ links now q
   links_set q =
       let same : links (the_tree kept_set) q ≡ links (edited now h (with_attr mode uid gid)) q =
@@ -203,7 +237,7 @@ module _ (limits : ServerLimits) (next bytes : ℕ) (k : Kept) (h : List ℕ) (p
   pub sound_set : IsSound limits next bytes k → IsSound limits next bytes kept_set
   sound_set sound = record {
     serials = by_place (λ q x. (q ≡ serial_bytes x.number) × (x.number < next)) (sound.serials h p is) sound.serials;
-    named = λ dir name x fits at. let both = sound.named dir name x fits at in (grows dir both.0, grows x both.1);
+    named = λ key x at. let both = sound.named key x at in (dirs_set (take 32 key) both.0, grows x both.1);
     counted = by_place (IsCounted kept_set)
         (counted_same k kept_set h p changed refl kinds_set (links_set h) refl refl refl (sound.counted h p is))
         (λ q x at. counted_same k kept_set q x x refl kinds_set (links_set q) refl refl refl (sound.counted q x at));

@@ -1,14 +1,14 @@
 -- What a node contains, by its kind.
-use Rattle.std.proofs.Common.{◌≡◌, ◌≢◌, ℕ, List, [], Some, None, refl, ap, ◌∙◌}
+use Rattle.std.proofs.Common.{inl, inr, ◌⊎◌, ◌≡◌, ◌≢◌, ℕ, List, [], length, Some, None, refl, sym, ap, ◌∙◌, arith}
 use Rattle.std.specs.Prelude.{unwrap_or, Bool, true, false}
 use Rattle.std.specs.Ordering.{nat_cmp}
 use Rattle.std.specs.Cmp.Lexicographic.{slice_cmp, nat_list_cmp_total}
-use Rattle.std.specs.FinMap.{insert, empty, get-empty}
+use Rattle.std.specs.FinMap.{insert, remove, empty, get-empty, len-empty}
 use Rattle.nfs2_types.specs.declared.fattr.Kind.{Kind}
 use Rattle.nfs2_types.specs.declared.fattr.Kind.TheVariants.{File, Dir, Link}
-use Rattle.server_trait.specs.Tree.{BytesOf, TextOf, NamesOf, Names, bytes_in, text_in, names_in, kind_of, names_to}
+use Rattle.server_trait.specs.Tree.{Content, BytesOf, TextOf, NamesOf, Names, bytes_in, text_in, names_in, kind_of, names_to, used_by}
 use Rattle.server_trait.proofs.SumLaws.{total-none}
-use Rattle.server_trait.proofs.TreeLaws.{some_none, get-insert_same, get-insert_other}
+use Rattle.server_trait.proofs.TreeLaws.{some_none, get-insert_same, get-insert_other, get-remove_other}
 use Rattle.path_server.specs.Nodes.{is_dir}
 use Rattle.path_server.specs.Bytes.{Contents, IsAdded, bytes_under, content_of}
 
@@ -37,6 +37,36 @@ pub no_names : (kind : Kind) (bytes : List ℕ) (names : Names) → kind ≢ Dir
 no_names File bytes names ne = refl
 no_names Dir bytes names ne = absurd (ne refl)
 no_names Link bytes names ne = refl
+
+-- a directory's content with other names
+pub fuller_content : (kind : Kind) (b c : List ℕ) (m n : Names) (f : Names → Names) → kind ≡ Dir → n ≡ f m →
+    content_of kind c n ≡ elim (content_of kind b m) as (λ _. Content) [
+      | BytesOf x ↦ BytesOf x
+      | TextOf x ↦ TextOf x
+      | NamesOf m ↦ NamesOf (f m)
+    ]
+fuller_content File b c m n f is e = absurd (let bad : File ≡ Dir = is in cc)
+fuller_content Dir b c m n f is e = ap NamesOf e
+fuller_content Link b c m n f is e = absurd (let bad : Link ≡ Dir = is in cc)
+
+-- a node without names contains as much as if it could have none
+pub bare_content : (kind : Kind) (bytes : List ℕ) (m : Names) → (kind ≡ Dir → m ≡ empty) →
+    content_of kind bytes m ≡ content_of kind bytes empty
+bare_content File bytes m none = refl
+bare_content Dir bytes m none = ap NamesOf (none refl)
+bare_content Link bytes m none = refl
+
+-- the bytes that such a node uses
+pub used-bare_dir : (kind : Kind) (bytes : List ℕ) → kind ≡ Dir → 0 ≡ used_by (content_of kind bytes empty)
+used-bare_dir kind bytes is =
+    let none = len-empty (slice_cmp nat_cmp) (List ℕ) in
+    let same = ap (λ kind. used_by (content_of kind bytes empty)) is in
+    omega (arith, none, same)
+
+pub used-bare_leaf : (kind : Kind) (bytes : List ℕ) → (kind ≡ File) ⊎ (kind ≡ Link) →
+    length bytes ≡ used_by (content_of kind bytes empty)
+used-bare_leaf kind bytes (inl is) = ap (λ kind. used_by (content_of kind bytes empty)) (sym is)
+used-bare_leaf kind bytes (inr is) = ap (λ kind. used_by (content_of kind bytes empty)) (sym is)
 
 pub its_kind : (kind : Kind) (bytes : List ℕ) (names : Names) → kind_of (content_of kind bytes names) ≡ kind
 its_kind File bytes names = refl
@@ -73,6 +103,11 @@ pub bytes-insert_other : (contents : Contents) (h b q : List ℕ) → q ≢ h �
     bytes_under (insert contents h b) q ≡ bytes_under contents q
 unfolding bytes_under
 bytes-insert_other contents h b q ne = ap (λ o. unwrap_or o []) (get-insert_other contents h b q ne)
+
+pub bytes-remove_other : (contents : Contents) (h q : List ℕ) → q ≢ h →
+    bytes_under (remove contents h) q ≡ bytes_under contents q
+unfolding bytes_under
+bytes-remove_other contents h q ne = ap (λ o. unwrap_or o []) (get-remove_other contents h q ne)
 
 pub added-dir : (h b : List ℕ) (contents : Contents) → IsAdded Dir h b contents contents
 added-dir h b contents = record { here = λ names. refl; others = λ q ne. refl }

@@ -4,7 +4,7 @@ use Rattle.std.specs.FinMap.{len}
 use Rattle.server_trait.specs.Tree.{links, subdirs}
 use Rattle.server_trait.proofs.CountLaws.{subdirs-same}
 use Rattle.path_server.specs.Kept.{Kept, the_tree}
-use Rattle.path_server.specs.Paths.{names_of}
+use Rattle.path_store.specs.Stored.{names_of}
 use Rattle.path_server.specs.Sound.{IsCounted}
 use Rattle.path_server.specs.declared.node.PathNode.{PathNode}
 use Rattle.path_server.proofs.NodeLaws.{kind_at, same_dirs}

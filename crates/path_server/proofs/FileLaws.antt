@@ -11,10 +11,10 @@ use Rattle.server_trait.proofs.CountLaws.{links-edited}
 use Rattle.server_trait.proofs.TreeLaws.{bytes_or_not, get-insert_same, get-insert_other, edited-some, used-edited, some_and}
 use Rattle.path_server.specs.Bytes.{Contents, bytes_under, content_of, rewritten}
 use Rattle.path_server.specs.Kept.{Kept, kept_as, node_of, full_node, nodes_of, the_tree}
-use Rattle.path_server.specs.Paths.{names_of}
+use Rattle.path_store.specs.Stored.{names_of}
 use Rattle.path_server.specs.Sound.{IsSound}
 use Rattle.path_server.specs.declared.node.PathNode.{PathNode}
-use Rattle.path_server.proofs.Rows.{bytes_exact}
+use Rattle.path_store.proofs.Rows.{bytes_exact}
 use Rattle.path_server.proofs.ContentLaws.{file_content, bytes-insert_same, bytes-insert_other}
 use Rattle.path_server.proofs.ByteLaws.{length-rewritten}
 use Rattle.path_server.proofs.CountedLaws.{counted_same}

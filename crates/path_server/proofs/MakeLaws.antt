@@ -1,5 +1,5 @@
 -- A server with one node more.
-use Rattle.std.proofs.Common.{inl, inr, ◌≡◌, ◌≢◌, ℕ, ◌+◌, ◌*◌, ◌^◌, ◌≤◌, ◌<◌, ◌++◌, true, false, cond, List, length, Option, Some, None, IsSome, is_some, refl, sym, ap, ◌∙◌, subst, arith}
+use Rattle.std.proofs.Common.{inl, inr, ◌≡◌, ◌≢◌, ℕ, ◌+◌, ◌*◌, ◌^◌, ◌≤◌, ◌<◌, ◌++◌, cond, List, length, take, Some, None, IsSome, IsSomeAnd, is_some, refl, sym, ap, ◌∙◌, subst, arith}
 use Rattle.std.specs.Prelude.{bytes_eq}
 use Rattle.std.specs.Option.{option_map}
 use Rattle.std.specs.Ordering.{nat_cmp}
@@ -7,47 +7,27 @@ use Rattle.std.specs.Cmp.Lexicographic.{slice_cmp, nat_list_cmp_total}
 use Rattle.std.specs.FinMap.{get, insert, len, empty, same_map, len-insert, len-empty}
 use Rattle.std.proofs.lemmas.Slice.Eq.{bytes_eq-Decides}
 use Rattle.nfs2_types.specs.declared.fattr.Kind.{Kind}
-use Rattle.nfs2_types.specs.declared.fattr.Kind.TheVariants.{File, Dir, Link}
-use Rattle.server_trait.specs.Tree.{Tree, Node, Names, ByBytes, Content, BytesOf, TextOf, NamesOf, IsNamed, node_at, names_in, is_dir_at, one_if, used, used_by, links, subdirs, new_node, named, with_node, with_names}
+use Rattle.nfs2_types.specs.declared.fattr.Kind.TheVariants.{Dir}
+use Rattle.server_trait.specs.Tree.{Tree, Node, Names, ByBytes, Content, NamesOf, IsNamed, node_at, names_in, is_dir_at, one_if, used, used_by, links, subdirs, new_node, named, with_node, with_names}
 use Rattle.server_trait.specs.Calls.{Made}
 use Rattle.server_trait.specs.declared.server.ServerLimits.{ServerLimits}
 use Rattle.server_trait.proofs.CountLaws.{links-with_node, links-named, subdirs-same, subdirs-insert_new, subdirs-most}
-use Rattle.server_trait.proofs.TreeLaws.{some_none, bytes_or_not, get-insert_same, get-insert_other, edited-some, used-with_node, used-edited, links-none, target_found}
+use Rattle.server_trait.proofs.TreeLaws.{some_none, is_some_and, bytes_or_not, get-insert_same, get-insert_other, edited-some, used-with_node, used-edited, links-none, target_found}
 use Rattle.path_server.specs.Bytes.{Contents, IsAdded, bytes_under, content_of}
 use Rattle.path_server.specs.Kept.{Kept, kept_as, node_of, full_node, nodes_of, the_tree}
 use Rattle.path_server.specs.Nodes.{is_dir, made_node, one_more}
-use Rattle.path_server.specs.Paths.{Paths, serial_bytes, names_of}
-use Rattle.path_server.specs.Sound.{IsSound, IsCounted, AreSerials, AreNamed, AreCounted}
+use Rattle.path_store.specs.Stored.{Paths, Stored, names_of}
+use Rattle.path_server.specs.Serials.{serial_bytes}
+use Rattle.path_server.specs.Sound.{IsSound, IsStored, AddsNode, IsCounted, AreSerials, AreNamed, AreCounted}
 use Rattle.path_server.specs.declared.node.PathNode.{PathNode}
-use Rattle.path_server.proofs.Rows.{bytes_exact}
-use Rattle.path_server.proofs.ContentLaws.{dir_content, its_names, names_to-new}
-use Rattle.path_server.proofs.NameLaws.{get-names_of, names_of-insert_same, names_of-insert_other, names_of-none, apart_keys}
+use Rattle.path_store.proofs.Rows.{bytes_exact}
+use Rattle.path_server.proofs.ContentLaws.{dir_content, fuller_content, its_names, names_to-new}
+use Rattle.path_store.proofs.NameLaws.{start_of, get-names_of, names_of-insert_same, names_of-insert_other, names_of-none}
+use Rattle.path_server.proofs.NamedLaws.{IsDirNode, named_in, none_of, is_some_none, is_and_none}
 use Rattle.path_server.proofs.NodeLaws.{get-nodes_of, node_at-kept, node_at-none, kept-node_at, node_here, kind_at, is_dir_kind, is_dir_at-kind, same_dirs}
+use Rattle.path_server.proofs.Recounted.{bytes_differ}
+use Rattle.path_server.proofs.StoredLaws.{stored_put, stored_new}
 use Rattle.path_server.proofs.Serials.{length-serial_bytes, kept_fits, next_absent}
-
-none_of : {A : Type 0} (o : Option A) → ((x : A) → o ≢ Some x) → o ≡ None
-none_of None h = refl
-none_of (Some x) h = absurd (h x refl)
-
-is_some_none : {A : Type 0} {o : Option A} → IsSome o → o ≡ None → ⊥
-is_some_none h e = let bad : false ≡ true = sym (ap is_some e) ∙ h in cc
-
-bytes_differ : (a b : List ℕ) → a ≢ b → bytes_eq a b ≡ false
-bytes_differ a b ne = elim (bytes_eq a b) as (λ x. bytes_eq a b ≡ x → x ≡ false) [
-  | true ↦ λ t. absurd (ne ((bytes_eq-Decides a b).0 t))
-  | false ↦ λ _. refl
-] refl
-
--- a directory's content with other names
-fuller_content : (kind : Kind) (b c : List ℕ) (m n : Names) (f : Names → Names) → kind ≡ Dir → n ≡ f m →
-    content_of kind c n ≡ elim (content_of kind b m) as (λ _. Content) [
-      | BytesOf x ↦ BytesOf x
-      | TextOf x ↦ TextOf x
-      | NamesOf m ↦ NamesOf (f m)
-    ]
-fuller_content File b c m n f is e = absurd (let bad : File ≡ Dir = is in cc)
-fuller_content Dir b c m n f is e = ap NamesOf e
-fuller_content Link b c m n f is e = absurd (let bad : Link ≡ Dir = is in cc)
 
 module _ (limits : ServerLimits) (next bytes : ℕ) (k : Kept) (sound : IsSound limits next bytes k) (small : next < 2 ^ 64)
     (dir name : List ℕ) (p : PathNode) (is : get k.nodes dir ≡ Some p) (is_directory : p.kind ≡ Dir) (new_name : get
@@ -89,7 +69,7 @@ module _ (limits : ServerLimits) (next bytes : ℕ) (k : Kept) (sound : IsSound 
 
   no_names : names_of k.paths to ≡ empty
   no_names = names_of-none to (length-serial_bytes next) k.paths (λ x. none_of (get k.paths (to ++ x)) (λ h at.
-      is_some_none (sound.named to x h (length-serial_bytes next) at).0 absent))
+      is_and_none (get k.nodes to) IsDirNode (named_in k.nodes k.paths sound.named to x h (length-serial_bytes next) at).0 absent))
 
   -- WHAT IS KEPT AFTER
 
@@ -244,17 +224,28 @@ module _ (limits : ServerLimits) (next bytes : ℕ) (k : Kept) (sound : IsSound 
       (refl, omega arith)
       (λ q x _ _ e. let s = sound.serials q x e in (s.0, omega (arith, s.1)))
 
+  dir_after : (q : List ℕ) → IsSomeAnd (get k.nodes q) IsDirNode → IsSomeAnd (get nodes_after q) IsDirNode
+  dir_after q there = elim (bytes_or_not q dir) as (λ _. IsSomeAnd (get nodes_after q) IsDirNode) [
+    | inl same ↦ is_some_and IsDirNode (ap (get nodes_after) same ∙ kept_dir) is_directory
+    | inr ne ↦ elim (bytes_or_not q to) as (λ _. IsSomeAnd (get nodes_after q) IsDirNode) [
+      | inl same ↦ absurd (is_and_none (get k.nodes q) IsDirNode there (ap (get k.nodes) same ∙ absent))
+      | inr ne' ↦ subst (λ o. IsSomeAnd o IsDirNode) (sym (kept_other q ne ne')) there
+    ]
+  ]
+
   named_after : AreNamed nodes_after paths_after
-  named_after q x h fits at = elim (bytes_or_not (q ++ x) (dir ++ name)) as (λ _. IsSome (get nodes_after q) × IsSome
-      (get nodes_after h)) [
+  named_after key h at = elim (bytes_or_not key (dir ++ name)) as (λ _. IsSomeAnd (get nodes_after (take 32 key))
+      IsDirNode × IsSome (get nodes_after h)) [
         | inl same ↦
-            let is_dir : q ≡ dir = apart_keys dir q name x dir_fits fits same in
+            let is_dir : take 32 key ≡ dir = ap (take 32) same ∙ start_of dir name dir_fits in
             let is_to : to ≡ h = (let f : Some to ≡ Some h = sym (get-insert_same k.paths (dir ++ name) to)
-            ∙ ap (get paths_after) (sym same) ∙ at in let one : to ≡ h = cc in one) in
-            (ap is_some (ap (get nodes_after) is_dir ∙ kept_dir), ap is_some (ap (get nodes_after) (sym is_to) ∙ kept_to))
+            ∙ ap (get paths_after) (sym same) ∙ at in let one : to ≡ h = cc in one) in (
+              is_some_and IsDirNode (ap (get nodes_after) is_dir ∙ kept_dir) is_directory,
+              ap is_some (ap (get nodes_after) (sym is_to) ∙ kept_to),
+            )
         | inr ne ↦
-            let both = sound.named q x h fits (sym (get-insert_other k.paths (dir ++ name) to (q ++ x) ne) ∙ at) in
-            (grows q both.0, grows h both.1)
+            let both = sound.named key h (sym (get-insert_other k.paths (dir ++ name) to key ne) ∙ at) in
+            (dir_after (take 32 key) both.0, grows h both.1)
       ]
 
   -- COUNTS AFTER
@@ -278,8 +269,8 @@ module _ (limits : ServerLimits) (next bytes : ℕ) (k : Kept) (sound : IsSound 
       let same : names_of k.paths leads.0 ≡ t.names = its_names d.0.kind (bytes_under k.contents leads.0) (names_of
       k.paths leads.0) t.names (ap (λ (n : Node). names_in n.content) (sym d.2) ∙ t.is_dir) in
       let fits = kept_fits k.nodes next sound.serials leads.0 d.0 d.1 in
-      is_some_none (sound.named leads.0 leads.1 to fits (sym (get-names_of leads.0 fits k.paths leads.1)
-      ∙ ap (λ m. get m leads.1) same ∙ t.leads)).1 absent
+      is_some_none (named_in k.nodes k.paths sound.named leads.0 leads.1 to fits (sym (get-names_of leads.0 fits k.paths
+      leads.1) ∙ ap (λ m. get m leads.1) same ∙ t.leads)).1 absent
 
   links_to : links (the_tree after) to ≡ 1
   links_to = let all = links_after to in let none = links-none now to no_link in
@@ -297,7 +288,8 @@ module _ (limits : ServerLimits) (next bytes : ℕ) (k : Kept) (sound : IsSound 
       k.paths q)
   subdirs_old q fits = subdirs-same (the_tree after) now (names_of k.paths q) (λ x h at. same_dirs after k h
       (kinds_after h (λ e.
-      is_some_none (sound.named q x h fits (sym (get-names_of q fits k.paths x) ∙ at)).1 (ap (get k.nodes) e ∙ absent))))
+      is_some_none (named_in k.nodes k.paths sound.named q x h fits (sym (get-names_of q fits k.paths x) ∙ at)).1 (ap
+      (get k.nodes) e ∙ absent))))
 
   subdirs_dir : subdirs (the_tree after) (insert names name to) ≡ subdirs now names + one_if (is_dir kind)
   subdirs_dir =
@@ -373,3 +365,9 @@ module _ (limits : ServerLimits) (next bytes : ℕ) (k : Kept) (sound : IsSound 
       is_handle,
       is_next,
     ) (sound_after full room node_room)
+
+    pub stored_made : (store store' : Stored) → IsStored k.nodes store → AddsNode kind store dir name handle store' →
+        IsStored nodes' store'
+    stored_made store store' stored adds = rw (is_nodes, is_handle) (stored_put (insert k.nodes to made) dir (one_more kind p)
+        store' p (get-insert_other k.nodes to made dir (λ e. apart (sym e)) ∙ is) refl refl
+        (stored_new k.nodes to made store store' dir name (omega arith) (rw is_handle at adds) stored))

@@ -16,7 +16,7 @@ use Rattle.nfs2_types.specs.declared.fattr.Kind.{Kind}
 use Rattle.path_server.specs.Nodes.{is_dir}
 use Rattle.path_server.specs.Bytes.{Contents, bytes_under}
 use Rattle.path_server.specs.Kept.{Kept, full_node, nodes_of, the_tree}
-use Rattle.path_server.specs.Paths.{Paths, names_of}
+use Rattle.path_store.specs.Stored.{Paths, names_of}
 use Rattle.path_server.proofs.ContentLaws.{has_names}
 use Rattle.path_server.specs.declared.node.PathNode.{PathNode}
 

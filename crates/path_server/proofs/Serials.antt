@@ -4,7 +4,7 @@ use Rattle.std.specs.Int.{w64, from_be_bytes}
 use Rattle.std.proofs.lemmas.Nat.{from_be_bytes-to_be_bytes_8}
 use Rattle.std.specs.FinMap.{get}
 use Rattle.server_trait.specs.Tree.{ByBytes}
-use Rattle.path_server.specs.Paths.{serial_bytes}
+use Rattle.path_server.specs.Serials.{serial_bytes}
 use Rattle.path_server.specs.Sound.{AreSerials}
 use Rattle.path_server.specs.declared.node.PathNode.{PathNode}
 
@@ -33,3 +33,7 @@ module _ (nodes : ByBytes PathNode) (next : ℕ) (serials : AreSerials nodes nex
         let one : next ≡ p.number = same_serial next p.number fits (omega arith) s.0 in
         absurd (omega arith)
   ] refl
+
+  -- the same, of a handle that was made so
+  pub handle_absent : (h : List ℕ) → h ≡ serial_bytes next → next < 2 ^ 64 → get nodes h ≡ None
+  handle_absent h is fits = ap (get nodes) is ∙ next_absent fits

@@ -9,11 +9,12 @@ use Rattle.server_trait.proofs.TreeLaws.{share, and_then, names_at-node, target-
 use Rattle.server_trait.proofs.CountLaws.{subdirs-most}
 use Rattle.path_server.specs.Bytes.{bytes_under}
 use Rattle.path_server.specs.Kept.{Kept, the_tree, tree_of}
-use Rattle.path_server.specs.Paths.{names_of}
+use Rattle.path_store.specs.Stored.{names_of}
 use Rattle.path_server.specs.Sound.{IsSound}
 use Rattle.path_server.specs.declared.node.PathNode.{PathNode}
 use Rattle.path_server.proofs.ContentLaws.{file_content, dir_content, link_content}
-use Rattle.path_server.proofs.NameLaws.{get-names_of}
+use Rattle.path_server.proofs.CountChanges.{links-cost}
+use Rattle.path_store.proofs.NameLaws.{get-names_of}
 use Rattle.path_server.proofs.NodeLaws.{len-nodes_of, node_at-kept, node_here}
 use Rattle.path_server.proofs.Serials.{kept_fits}
 
@@ -47,6 +48,14 @@ module _ (limits : ServerLimits) (next bytes : ℕ) (k : Kept) (sound : IsSound 
       let subs = (sound.counted h p is).subdirs in
       let fewer = subdirs-most (the_tree k) (names_of k.paths h) in
       omega (arith, names, count, subs, fewer)
+
+  pub few_links : limits.bytes ≤ 1073741824 → p.links + 1 < 2 ^ 32
+  few_links most =
+      let cost = links-cost (the_tree k) h in
+      let count = (sound.counted h p is).links in
+      let all = sound.bytes_used in
+      let within = sound.bytes_most in
+      omega (arith, cost, count, all, within, most)
 
   pub few_bytes : p.kind ≡ File → length (bytes_under k.contents h) ≤ bytes
   few_bytes is_file =

@@ -7,7 +7,7 @@ use Rattle.server_trait.specs.Tree.{Tree, Node, ByBytes, Names}
 use Rattle.server_trait.specs.declared.server.SrvErr.{SrvErr}
 use Rattle.server_trait.specs.declared.server.SrvErr.TheVariants.{Stale, NotDir, WrongKind}
 use Rattle.path_server.specs.Bytes.{Contents, bytes_under, content_of}
-use Rattle.path_server.specs.Paths.{Paths, names_of}
+use Rattle.path_store.specs.Stored.{Paths, names_of}
 use Rattle.path_server.specs.declared.node.PathNode.{PathNode}
 
 -- what a server keeps: the root's handle, the nodes, what files and links contain, and all names
@@ -57,3 +57,10 @@ IsFoundDir nodes h (Ok p) = (get nodes h ≡ Some p) × (p.kind ≡ Dir)
 IsFoundDir nodes h (Err Stale) = get nodes h ≡ None
 IsFoundDir nodes h (Err NotDir) = IsSomeAnd (get nodes h) (λ p. p.kind ≢ Dir)
 IsFoundDir nodes h (Err e) = ⊥
+
+-- a file or a link that is kept, or why there is none
+abbrev pub IsFoundLeaf : ByBytes PathNode → List ℕ → Result PathNode SrvErr → Type 0
+IsFoundLeaf nodes h (Ok p) = (get nodes h ≡ Some p) × (p.kind ≢ Dir)
+IsFoundLeaf nodes h (Err Stale) = get nodes h ≡ None
+IsFoundLeaf nodes h (Err WrongKind) = IsSomeAnd (get nodes h) (λ p. p.kind ≡ Dir)
+IsFoundLeaf nodes h (Err e) = ⊥

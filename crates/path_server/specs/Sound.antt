@@ -1,10 +1,13 @@
 -- What holds of a tree that a path server holds.
-use Rattle.std.specs.Prelude.{◌≡◌, ℕ, ◌<◌, ◌≤◌, List, ◌++◌, Some, IsSome, max, length}
-use Rattle.std.specs.FinMap.{get, len}
+use Rattle.std.specs.Prelude.{◌≡◌, ◌≢◌, ◌↔◌, ℕ, ◌<◌, ◌≤◌, true, List, ◌++◌, take, Some, IsSome, IsSomeAnd, max}
+use Rattle.std.specs.FinMap.{get, insert, len}
+use Rattle.nfs2_types.specs.declared.fattr.Kind.{Kind}
+use Rattle.nfs2_types.specs.declared.fattr.Kind.TheVariants.{Dir}
 use Rattle.server_trait.specs.Tree.{ByBytes, used, links, subdirs}
 use Rattle.server_trait.specs.declared.server.ServerLimits.{ServerLimits}
+use Rattle.path_store.specs.Stored.{Paths, Stored, names_of}
 use Rattle.path_server.specs.Kept.{Kept, the_tree}
-use Rattle.path_server.specs.Paths.{Paths, names_of, serial_bytes}
+use Rattle.path_server.specs.Serials.{serial_bytes}
 use Rattle.path_server.specs.declared.node.PathNode.{PathNode}
 
 -- each handle is that of its node's number, which is below the next
@@ -12,10 +15,10 @@ abbrev pub AreSerials : ByBytes PathNode → ℕ → Type 0
 AreSerials nodes next = (h : List ℕ) (p : PathNode) → get nodes h ≡ Some p →
     (h ≡ serial_bytes p.number) × (p.number < next)
 
--- names are of nodes, and lead to nodes
+-- names are of directories, and lead to nodes
 abbrev pub AreNamed : ByBytes PathNode → Paths → Type 0
-AreNamed nodes paths = (dir name h : List ℕ) → length dir ≡ 32 → get paths (dir ++ name) ≡ Some h →
-    IsSome (get nodes dir) × IsSome (get nodes h)
+AreNamed nodes paths = (key h : List ℕ) → get paths key ≡ Some h →
+    IsSomeAnd (get nodes (take 32 key)) (λ p. p.kind ≡ Dir) × IsSome (get nodes h)
 
 -- a node counts its names, those of them that lead to directories, and the names that lead to it
 pub record IsCounted (k : Kept) (h : List ℕ) (p : PathNode) : Type 0 where
@@ -35,3 +38,16 @@ pub record IsSound (limits : ServerLimits) (next bytes : ℕ) (k : Kept) : Type 
   pub bytes_used : bytes ≡ used (the_tree k)
   pub bytes_most : bytes ≤ limits.bytes
   pub nodes_most : len k.nodes ≤ max 1 limits.nodes
+
+-- the store has the paths of exactly the directories that are kept, and a directory has at most one name
+pub record IsStored (nodes : ByBytes PathNode) (s : Stored) : Type 0 where
+  pub whole : s.whole ≡ true
+  pub dirs : (h : List ℕ) → IsSome (get s.dirs h) ↔ IsSomeAnd (get nodes h) (λ p. p.kind ≡ Dir)
+  pub once : (h : List ℕ) (p : PathNode) → get nodes h ≡ Some p → p.kind ≡ Dir → p.links ≤ 1
+
+-- one name more leads to a new node of this kind, which has a path where it is a directory
+pub record AddsNode (kind : Kind) (old : Stored) (dir name h : List ℕ) (new : Stored) : Type 0 where
+  pub whole : new.whole ≡ true
+  pub names : new.names ≡ insert old.names (dir ++ name) h
+  pub here : IsSome (get new.dirs h) ↔ (kind ≡ Dir)
+  pub others : (q : List ℕ) → q ≢ h → get new.dirs q ≡ get old.dirs q

@@ -7,7 +7,7 @@ use Rattle.path_server.specs.declared.server.PathServer.{PathServer}
 
 -- what it keeps
 abbrev pub kept_by : PathServer → Kept
-kept_by s = kept_as s.root (from_entries s.nodes.entries) s.contents s.names
+kept_by s = kept_as s.root (from_entries s.nodes.entries) s.contents s.names.names
 
 -- its tree, its limits, and no faults
 abbrev pub state_of : PathServer → Server

@@ -79,6 +79,13 @@ impl PathContents {
         }
     }
 
+    /// Takes out a node, which has no bytes from then on.
+    pub fn remove(&mut self, node: &Handle)
+        ensures { self.new ≡ map.remove self.old node.now }
+    {
+        self.rows.remove(node);
+    }
+
     /// Takes the bytes out of a node, which has none from then on.
     pub fn take(&mut self, alloc: Global, node: &Handle) -> Result<Vec<u8>, NoMemory>
         ensures bytes { IfOk result (λ bytes. bytes.items ≡ bytes_under self.old node.now) }

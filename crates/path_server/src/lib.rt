@@ -2,9 +2,7 @@
 #![tactic(auto)]
 
 mod contents;
-mod key;
 mod laws;
-mod names;
 mod node;
 mod server;
 

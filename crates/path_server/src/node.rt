@@ -1,7 +1,8 @@
 //! What is kept of a node, and its handle.
 
-ghost use Rattle.std.specs.Prelude.{◌≡◌, ◌+◌, ◌<◌, ◌^◌};
-ghost use Rattle.path_server.specs.Paths.{serial_bytes};
+ghost use Rattle.std.specs.Prelude.{◌≡◌, ◌+◌, ◌<◌, ◌≤◌, ◌^◌};
+ghost use Rattle.server_trait.specs.Tree.{one_if};
+ghost use Rattle.path_server.specs.Serials.{serial_bytes};
 
 use nfs2_types::{Handle, Kind};
 
@@ -20,7 +21,7 @@ pub struct PathNode {
 }
 
 impl PathNode {
-    ghost use Rattle.path_server.specs.Nodes.{made_node, one_more, set_node};
+    ghost use Rattle.path_server.specs.Nodes.{is_dir, made_node, one_more, one_less, one_link_more, one_link_less, set_node};
 
     /// A node of mode, uid and gid 0, without names.
     pub fn new(kind: Kind, number: u64, links: u32) -> PathNode
@@ -55,6 +56,45 @@ impl PathNode {
         }
     }
 
+    /// The directory with one name less, which led to a node of this kind.
+    pub fn without_name(self, kind: Kind) -> PathNode
+        requires names { 1 ≤ self.names }
+        requires subdirs { one_if (is_dir kind) ≤ self.subdirs }
+        ensures { result ≡ one_less kind self }
+    {
+        let subdirs = match kind {
+            Kind::Dir => self.subdirs - 1,
+            Kind::File | Kind::Link => self.subdirs,
+        };
+        PathNode {
+            names: self.names - 1,
+            subdirs,
+            ..self
+        }
+    }
+
+    /// The node with one name more that leads to it.
+    pub fn linked(self) -> PathNode
+        requires { self.links + 1 < 2 ^ 32 }
+        ensures { result ≡ one_link_more self }
+    {
+        PathNode {
+            links: self.links + 1,
+            ..self
+        }
+    }
+
+    /// The node with one name less that leads to it.
+    pub fn unlinked(self) -> PathNode
+        requires { 1 ≤ self.links }
+        ensures { result ≡ one_link_less self }
+    {
+        PathNode {
+            links: self.links - 1,
+            ..self
+        }
+    }
+
     /// The node with other attributes.
     pub fn with_attr(self, mode: u32, uid: u32, gid: u32) -> PathNode
         ensures { result ≡ set_node mode uid gid self }
@@ -69,7 +109,7 @@ impl PathNode {
 }
 
 /// The handle of a serial number: its eight bytes, the most significant first, and zeros.
-#[tactic(auto, unfolding(crate::specs::Paths::serial_bytes))]
+#[tactic(auto, unfolding(crate::specs::Serials::serial_bytes))]
 pub fn handle_of(serial: u64) -> Handle
     ensures { result ≡ serial_bytes serial }
 {

@@ -1,6 +1,7 @@
 //! The server.
 
 ghost use Rattle.std.specs.Prelude.{◌≡◌, ◌≤◌, ◌+◌, ◌-◌, ◌++◌, ◌<◌, true, false, IfOk, OnOk, OnErr, Some, None, IsSomeAnd, length};
+ghost use Rattle.std.proofs.Props.{props};
 ghost use Rattle.std.specs.FinMap.{get, len, empty, from_entries};
 ghost use Rattle.nfs2_types.specs.Names.{is_name};
 ghost use Rattle.nfs2_types.specs.declared.fattr.Kind.TheVariants.{File, Dir};
@@ -9,16 +10,20 @@ ghost use Rattle.server_trait.specs.Step.{HasTree};
 ghost use Rattle.server_trait.specs.Calls.{IsFresh, Made, Make};
 ghost use Rattle.path_server.specs.Bytes.{bytes_under, content_of, rewritten};
 ghost use Rattle.path_server.specs.Kept.{IsFound, IsFoundDir, full_node, kept_as, the_tree};
-ghost use Rattle.path_server.specs.Sound.{IsSound};
+ghost use Rattle.path_server.specs.Sound.{IsSound, IsStored, AddsNode};
+ghost use Rattle.path_store.specs.Stored.{IsDir, IsUnnamed};
 
-use crate::contents::{PathContents, part, rewrite};
-use crate::names::PathNames;
+use crate::contents::{PathContents, rewrite};
 use crate::node::{PathNode, handle_of};
-use nfs2_types::{Handle, Kind, NoMemory, Time};
-use server_trait::{FileServer, Listed, NodeAttr, ServerLimits, SrvErr};
+use nfs2_types::{Handle, Kind, NoMemory};
+use path_store::PathStore;
+use server_trait::{FileServer, ServerLimits, SrvErr};
 use std::alloc::Global;
-use std::cmp::max;
 use std::collections::BTreeMap;
+
+mod calls;
+mod names;
+mod rename;
 
 /// A tree in memory, under handles that are serial numbers, which go on after a wipe. It never answers Fault, and Full
 /// only where the tree would pass its limits.
@@ -32,10 +37,13 @@ pub struct PathServer {
     bytes: u64,
     nodes: BTreeMap<Handle, PathNode>,
     contents: PathContents,
-    names: PathNames,
+    names: PathStore,
     ghost limited: { limits.bytes ≤ 1073741824 },
     ghost sound: { held ≡ true
-        → IsSound limits next bytes (kept_as root (from_entries nodes.entries) contents names) },
+        → IsSound limits next bytes
+        (kept_as root (from_entries nodes.entries) contents names.names) } by { Prim.hlevel props },
+    ghost stored: { held ≡ true
+        → IsStored (from_entries nodes.entries) names } by { Prim.hlevel props },
 }
 
 impl PathServer {
@@ -48,16 +56,18 @@ impl PathServer {
         ensures limits { IfOk result (λ s. (⟦<PathServer as FileServer>⟧.state s).limits ≡ limits) }
         ensures faults { IfOk result (λ s. (⟦<PathServer as FileServer>⟧.state s).faults ≡ 0) }
     {
+        let root = [0; 32];
+        let names = PathStore::new(alloc, &root)?;
         let mut server = PathServer {
             alloc,
             limits,
             held: false,
-            root: [0; 32],
+            root,
             next: 0,
             bytes: 0,
             nodes: BTreeMap::new(alloc),
             contents: PathContents::new(alloc),
-            names: PathNames::new(alloc),
+            names,
         };
         server.start()?;
         Ok(server)
@@ -74,10 +84,13 @@ impl PathServer {
         let Some(next) = self.next.checked_add(1) else {
             return Err(NoMemory);
         };
-        self.names = PathNames::new(self.alloc);
+        self.root = handle_of(self.next);
+        let Ok(names) = PathStore::new(self.alloc, &self.root) else {
+            return Err(NoMemory);
+        };
+        self.names = names;
         self.contents = PathContents::new(self.alloc);
         self.nodes.clear();
-        self.root = handle_of(self.next);
         let root = PathNode::new(Kind::Dir, self.next, 0);
         let Ok(_) = self.nodes.insert(self.root, root) else {
             return Err(NoMemory);
@@ -122,7 +135,8 @@ impl PathServer {
         requires held { self.old.held ≡ true }
         requires kept { get (kept_by self.old).nodes dir.now ≡ Some kept }
         requires is_dir { kept.kind ≡ Dir }
-        requires new_name { get self.old.names (dir.now ++ name.now) ≡ None }
+        requires name { is_name name.now ≡ true }
+        requires new_name { get self.old.names.names (dir.now ++ name.now) ≡ None }
         requires nodes { len (kept_by self.old).nodes < self.old.limits.nodes }
         requires bytes { used_by (content_of kind bytes.now empty) ≡ length bytes.now }
         requires room { self.old.bytes + (512 + length bytes.now) ≤ self.old.limits.bytes }
@@ -137,7 +151,7 @@ impl PathServer {
             return Err(NoMemory);
         };
         let handle = handle_of(self.next);
-        self.names.insert(self.alloc, dir, name, handle)?;
+        add_new(&mut self.names, dir, name, &handle, kind)?;
         self.contents.add(self.alloc, &handle, kind, bytes)?;
         let node = PathNode::new(kind, self.next, 1);
         let Ok(_) = self.nodes.insert(handle, node) else {
@@ -168,9 +182,35 @@ impl PathServer {
             (state_of self.old) dir.now name.now result (state_of self.new) }
     {
         let kept = self.find_dir(dir)?;
-        if self.names.get(dir, name).is_some() {
-            return Err(SrvErr::Exists);
+        match self.names.get(dir, name) {
+            Ok(None) => self.make_new(dir, kept, name, kind, bytes),
+            Ok(Some(_)) => Err(SrvErr::Exists),
+            Err(_) => {
+                self.held = false;
+                Err(SrvErr::NoMemory)
+            }
         }
+    }
+
+    /// Makes a node of a new name, of a kind with these bytes. Errors: Full, NoMemory.
+    fn make_new(
+        &mut self,
+        dir: &Handle,
+        kept: PathNode,
+        name: &[u8],
+        kind: Kind,
+        bytes: &[u8],
+    ) -> Result<Handle, SrvErr>
+        requires held { self.old.held ≡ true }
+        requires kept { get (kept_by self.old).nodes dir.now ≡ Some kept }
+        requires is_dir { kept.kind ≡ Dir }
+        requires name { is_name name.now ≡ true }
+        requires new_name { get self.old.names.names (dir.now ++ name.now) ≡ None }
+        requires bytes { used_by (content_of kind bytes.now empty) ≡ length bytes.now }
+        requires few { length bytes.now ≤ 1024 }
+        ensures { Make (content_of kind bytes.now empty) (length bytes.now)
+            (state_of self.old) dir.now name.now result (state_of self.new) }
+    {
         let more = 512 + bytes.len() as u64;
         if self.nodes.len() >= self.limits.nodes as usize || self.bytes + more > self.limits.bytes {
             return Err(SrvErr::Full);
@@ -213,9 +253,10 @@ impl PathServer {
     fn size_and_links(&self, node: &Handle, kept: PathNode) -> (u32, u32)
         requires held { self.now.held ≡ true }
         requires kept { get (kept_by self.now).nodes node.now ≡ Some kept }
-        ensures size { result.0 ≡ size_of (full_node self.now.contents self.now.names node.now kept).content }
+        ensures size { result.0 ≡ size_of
+            (full_node self.now.contents self.now.names.names node.now kept).content }
         ensures links { result.1 ≡ links_of (the_tree (kept_by self.now)) node.now
-            (full_node self.now.contents self.now.names node.now kept).content }
+            (full_node self.now.contents self.now.names.names node.now kept).content }
     {
         match kept.kind {
             Kind::Dir => (kept.names, kept.subdirs),
@@ -224,132 +265,24 @@ impl PathServer {
     }
 }
 
-impl FileServer for PathServer {
-    ghost use Rattle.path_server.specs.State.{state_of};
-
-    ghost state = { state_of };
-
-    fn limits(&self) -> ServerLimits {
-        self.limits
-    }
-
-    fn root(&self) -> Handle {
-        self.root
-    }
-
-    fn attr(&mut self, node: &Handle) -> Result<NodeAttr, SrvErr> {
-        let Some(kept) = self.nodes.get(node).copied() else {
-            return Err(SrvErr::Stale);
-        };
-        let (size, links) = self.size_and_links(node, kept);
-        Ok(NodeAttr {
-            kind: kept.kind,
-            number: kept.number,
-            mode: kept.mode,
-            uid: kept.uid,
-            gid: kept.gid,
-            size,
-            links,
-            time: Time { secs: 0, micros: 0 },
-        })
-    }
-
-    fn set_attr(&mut self, node: &Handle, mode: u32, uid: u32, gid: u32) -> Result<(), SrvErr> {
-        let Some(kept) = self.nodes.get(node).copied() else {
-            return Err(SrvErr::Stale);
-        };
-        let changed = kept.with_attr(mode, uid, gid);
-        // A node that is there takes no memory.
-        let Ok(_) = self.nodes.insert(*node, changed) else {
-            unreachable!();
-        };
-        Ok(())
-    }
-
-    fn read(&mut self, file: &Handle, offset: u32, count: u32) -> Result<Vec<u8>, SrvErr> {
-        let _ = self.find(file, Kind::File)?;
-        let bytes = part(self.contents.get(file), offset as usize, count as usize);
-        match Vec::from_slice(self.alloc, bytes) {
-            Ok(copy) => Ok(copy),
-            Err(_) => {
-                self.held = false;
-                Err(SrvErr::NoMemory)
-            }
-        }
-    }
-
-    fn read_link(&mut self, link: &Handle) -> Result<Vec<u8>, SrvErr> {
-        let _ = self.find(link, Kind::Link)?;
-        match Vec::from_slice(self.alloc, self.contents.get(link)) {
-            Ok(copy) => Ok(copy),
-            Err(_) => {
-                self.held = false;
-                Err(SrvErr::NoMemory)
-            }
-        }
-    }
-
-    fn write(&mut self, file: &Handle, offset: u32, piece: &[u8]) -> Result<u32, SrvErr> {
-        let _ = self.find(file, Kind::File)?;
-        let start = offset as usize;
-        let len = self.contents.get(file).len();
-        let size = max(len, start + piece.len());
-        if self.bytes - len as u64 + size as u64 > self.limits.bytes {
-            return Err(SrvErr::Full);
-        }
-        match self.change(file, size, start, piece) {
-            Ok(()) => Ok(piece.len() as u32),
-            Err(_) => Err(SrvErr::NoMemory),
-        }
-    }
-
-    fn set_size(&mut self, file: &Handle, size: u32) -> Result<(), SrvErr> {
-        let _ = self.find(file, Kind::File)?;
-        let len = self.contents.get(file).len();
-        if self.bytes - len as u64 + u64::from(size) > self.limits.bytes {
-            return Err(SrvErr::Full);
-        }
-        match self.change(file, size as usize, 0, b"") {
-            Ok(()) => Ok(()),
-            Err(_) => Err(SrvErr::NoMemory),
-        }
-    }
-
-    fn lookup(&mut self, dir: &Handle, name: &[u8]) -> Result<Handle, SrvErr> {
-        let _ = self.find_dir(dir)?;
-        match self.names.get(dir, name) {
-            Some(handle) => Ok(handle),
-            None => Err(SrvErr::NoEnt),
-        }
-    }
-
-    fn list(&mut self, dir: &Handle) -> Result<Vec<Listed>, SrvErr> {
-        let _ = self.find_dir(dir)?;
-        match self.names.list(self.alloc, dir) {
-            Ok(rows) => Ok(rows),
-            Err(_) => {
-                self.held = false;
-                Err(SrvErr::NoMemory)
-            }
-        }
-    }
-
-    fn create(&mut self, dir: &Handle, name: &[u8]) -> Result<Handle, SrvErr> {
-        self.make(dir, name, Kind::File, b"")
-    }
-
-    fn mkdir(&mut self, dir: &Handle, name: &[u8]) -> Result<Handle, SrvErr> {
-        self.make(dir, name, Kind::Dir, b"")
-    }
-
-    fn symlink(&mut self, dir: &Handle, name: &[u8], text: &[u8]) -> Result<Handle, SrvErr> {
-        self.make(dir, name, Kind::Link, text)
-    }
-
-    fn wipe(&mut self) -> Result<(), SrvErr> {
-        match self.start() {
-            Ok(()) => Ok(()),
-            Err(_) => Err(SrvErr::NoMemory),
-        }
+/// Makes a new name of a directory lead to a new node of a kind.
+fn add_new(
+    names: &mut PathStore,
+    dir: &Handle,
+    name: &[u8],
+    to: &Handle,
+    kind: Kind,
+) -> Result<(), NoMemory>
+    requires whole { names.old.whole ≡ true }
+    requires dir { IsDir names.old dir.now }
+    requires name { is_name name.now ≡ true }
+    requires new_name { get names.old.names (dir.now ++ name.now) ≡ None }
+    requires no_dir { get names.old.dirs to.now ≡ None }
+    requires unnamed { IsUnnamed names.old to.now }
+    ensures added { OnOk result (AddsNode kind names.old dir.now name.now to.now names.new) }
+{
+    match kind {
+        Kind::Dir => names.add_dir(dir, name, to),
+        Kind::File | Kind::Link => names.add(dir, name, to),
     }
 }

@@ -1,6 +1,7 @@
 //! A boxed server, through tables of calls.
 
 mod case;
+mod renames;
 
 use case::{Case, odd_one};
 use nfs2_types::Kind;
@@ -154,6 +155,94 @@ fn room(rt: HostRuntime) -> Result<(), Fail> {
         Case::SetSize(2, 5, Ok(())),
         Case::Write(2, 6, b"x", Err("full")),
         Case::SetSize(2, 6, Ok(())),
+    ];
+    assert_eq!(rt; odd_one(rt.alloc(), limits, &cases)?, None);
+    Ok(())
+}
+
+#[test]
+fn names_added(rt: HostRuntime) -> Result<(), Fail> {
+    let cases = [
+        Case::Mkdir(1, b"usr", Ok(2)),
+        Case::Create(1, b"file", Ok(3)),
+        Case::Symlink(1, b"link", b"file", Ok(4)),
+        Case::Link(3, 2, b"same", Ok(())),
+        Case::Link(4, 1, b"also", Ok(())),
+        Case::Lookup(2, b"same", Ok(3)),
+        Case::Lookup(1, b"file", Ok(3)),
+        Case::Lookup(1, b"also", Ok(4)),
+        Case::List(2, Ok(&[(b"same", 3)])),
+        Case::Attr(1, Ok((Kind::Dir, 0, 0, 0, 4, 1))),
+        Case::Attr(2, Ok((Kind::Dir, 0, 0, 0, 1, 0))),
+        Case::Attr(3, Ok((Kind::File, 0, 0, 0, 0, 2))),
+        Case::Attr(4, Ok((Kind::Link, 0, 0, 0, 4, 2))),
+        Case::Link(0, 1, b"new", Err("stale")),
+        Case::Link(3, 0, b"new", Err("stale")),
+        Case::Link(2, 1, b"new", Err("other kind")),
+        Case::Link(3, 4, b"new", Err("no directory")),
+        Case::Link(3, 2, b"same", Err("exists")),
+        Case::Link(4, 1, b"usr", Err("exists")),
+    ];
+    assert_eq!(rt; odd_one(rt.alloc(), ROOMY, &cases)?, None);
+    Ok(())
+}
+
+#[test]
+fn names_removed(rt: HostRuntime) -> Result<(), Fail> {
+    let cases = [
+        Case::Mkdir(1, b"usr", Ok(2)),
+        Case::Create(1, b"file", Ok(3)),
+        Case::Write(3, 0, b"abc", Ok(3)),
+        Case::Symlink(2, b"link", b"file", Ok(4)),
+        Case::Link(3, 2, b"same", Ok(())),
+        Case::Remove(1, b"file", Ok(())),
+        Case::Lookup(1, b"file", Err("no entry")),
+        Case::Lookup(2, b"same", Ok(3)),
+        Case::Read(3, 0, 9, Ok(b"abc")),
+        Case::Attr(1, Ok((Kind::Dir, 0, 0, 0, 1, 1))),
+        Case::Attr(3, Ok((Kind::File, 0, 0, 0, 3, 1))),
+        Case::Remove(2, b"same", Ok(())),
+        Case::Attr(3, Err("stale")),
+        Case::Read(3, 0, 9, Err("stale")),
+        Case::List(2, Ok(&[(b"link", 4)])),
+        Case::Remove(0, b"link", Err("stale")),
+        Case::Remove(4, b"link", Err("no directory")),
+        Case::Remove(2, b"same", Err("no entry")),
+        Case::Remove(1, b"usr", Err("other kind")),
+        Case::Rmdir(1, b"usr", Err("not empty")),
+        Case::Rmdir(2, b"link", Err("no directory")),
+        Case::Remove(2, b"link", Ok(())),
+        Case::Rmdir(0, b"usr", Err("stale")),
+        Case::Rmdir(1, b"bin", Err("no entry")),
+        Case::Rmdir(1, b"usr", Ok(())),
+        Case::Attr(2, Err("stale")),
+        Case::Lookup(1, b"usr", Err("no entry")),
+        Case::Attr(1, Ok((Kind::Dir, 0, 0, 0, 0, 0))),
+        Case::Mkdir(1, b"usr", Ok(5)),
+    ];
+    assert_eq!(rt; odd_one(rt.alloc(), ROOMY, &cases)?, None);
+    Ok(())
+}
+
+#[test]
+fn room_given_back(rt: HostRuntime) -> Result<(), Fail> {
+    let limits = ServerLimits {
+        nodes: 3,
+        bytes: 1034,
+    };
+    let cases = [
+        Case::Create(1, b"file", Ok(2)),
+        Case::Link(2, 1, b"same", Ok(())),
+        Case::Write(2, 0, b"abcdefghij", Ok(10)),
+        Case::Link(2, 1, b"more", Err("full")),
+        Case::Remove(1, b"same", Ok(())),
+        Case::Link(2, 1, b"more", Ok(())),
+        Case::Remove(1, b"file", Ok(())),
+        Case::Remove(1, b"more", Ok(())),
+        Case::Mkdir(1, b"usr", Ok(3)),
+        Case::Symlink(1, b"link", b"abcdefghij", Ok(4)),
+        Case::Rmdir(1, b"usr", Ok(())),
+        Case::Create(1, b"file", Ok(5)),
     ];
     assert_eq!(rt; odd_one(rt.alloc(), limits, &cases)?, None);
     Ok(())

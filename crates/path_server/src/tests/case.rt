@@ -3,6 +3,7 @@
 ghost use Rattle.std.specs.Prelude.{◌≡◌, ◌≤◌, ◌+◌, true, OnOk, length};
 ghost use Rattle.server_trait.specs.Step.{HasTree};
 
+use super::renames::renamed;
 use crate::PathServer;
 use crate::node::handle_of;
 use nfs2_types::{Handle, Kind, is_bad, is_dot};
@@ -25,6 +26,10 @@ pub enum Case {
     SetSize(u64, u32, Answer<()>),
     Read(u64, u32, u32, Answer<&'static [u8]>),
     ReadLink(u64, Answer<&'static [u8]>),
+    Link(u64, u64, &'static [u8], Answer<()>),
+    Remove(u64, &'static [u8], Answer<()>),
+    Rmdir(u64, &'static [u8], Answer<()>),
+    Rename(u64, &'static [u8], u64, &'static [u8], Answer<()>),
     SetAttr(u64, u32, u32, u32),
     Attr(u64, Answer<(Kind, u32, u32, u32, u32, u32)>),
 }
@@ -110,6 +115,61 @@ fn listed(server: &mut Srv, dir: &Handle) -> Result<Answer<Vec<Listed>>, Fail>
         Err(SrvErr::Stale) => Ok(Err("stale")),
         Err(SrvErr::NotDir) => Ok(Err("no directory")),
         Err(_) => Err("list".into()),
+    }
+}
+
+/// Gives a node one name more.
+fn named(server: &mut Srv, node: &Handle, dir: &Handle, name: &[u8]) -> Result<Answer<()>, Fail>
+    requires { HasTree (⟦<Srv as FileServer>⟧.state server.old) }
+    ensures { OnOk result (HasTree (⟦<Srv as FileServer>⟧.state server.new)) }
+{
+    if is_bad(name) || is_dot(name) || name.len() > 255 {
+        return Err("name".into());
+    }
+    match server.link(node, dir, name) {
+        Ok(()) => Ok(Ok(())),
+        Err(SrvErr::Stale) => Ok(Err("stale")),
+        Err(SrvErr::NotDir) => Ok(Err("no directory")),
+        Err(SrvErr::WrongKind) => Ok(Err("other kind")),
+        Err(SrvErr::Exists) => Ok(Err("exists")),
+        Err(SrvErr::Full) => Ok(Err("full")),
+        Err(_) => Err("link".into()),
+    }
+}
+
+/// Takes out a name of a file or a link.
+fn unnamed(server: &mut Srv, dir: &Handle, name: &[u8]) -> Result<Answer<()>, Fail>
+    requires { HasTree (⟦<Srv as FileServer>⟧.state server.old) }
+    ensures { OnOk result (HasTree (⟦<Srv as FileServer>⟧.state server.new)) }
+{
+    if is_bad(name) || is_dot(name) || name.len() > 255 {
+        return Err("name".into());
+    }
+    match server.remove(dir, name) {
+        Ok(()) => Ok(Ok(())),
+        Err(SrvErr::Stale) => Ok(Err("stale")),
+        Err(SrvErr::NotDir) => Ok(Err("no directory")),
+        Err(SrvErr::NoEnt) => Ok(Err("no entry")),
+        Err(SrvErr::WrongKind) => Ok(Err("other kind")),
+        Err(_) => Err("remove".into()),
+    }
+}
+
+/// Takes out the name of a directory.
+fn emptied(server: &mut Srv, dir: &Handle, name: &[u8]) -> Result<Answer<()>, Fail>
+    requires { HasTree (⟦<Srv as FileServer>⟧.state server.old) }
+    ensures { OnOk result (HasTree (⟦<Srv as FileServer>⟧.state server.new)) }
+{
+    if is_bad(name) || is_dot(name) || name.len() > 255 {
+        return Err("name".into());
+    }
+    match server.rmdir(dir, name) {
+        Ok(()) => Ok(Ok(())),
+        Err(SrvErr::Stale) => Ok(Err("stale")),
+        Err(SrvErr::NotDir) => Ok(Err("no directory")),
+        Err(SrvErr::NoEnt) => Ok(Err("no entry")),
+        Err(SrvErr::NotEmpty) => Ok(Err("not empty")),
+        Err(_) => Err("rmdir".into()),
     }
 }
 
@@ -282,6 +342,14 @@ fn holds(server: &mut Srv, case: Case) -> Result<bool, Fail>
             wanted,
         )),
         Case::ReadLink(link, wanted) => Ok(same_bytes(text_of(server, &handle_of(link))?, wanted)),
+        Case::Link(node, dir, name, wanted) => {
+            Ok(named(server, &handle_of(node), &handle_of(dir), name)? == wanted)
+        }
+        Case::Remove(dir, name, wanted) => Ok(unnamed(server, &handle_of(dir), name)? == wanted),
+        Case::Rmdir(dir, name, wanted) => Ok(emptied(server, &handle_of(dir), name)? == wanted),
+        Case::Rename(from, name, to, to_name, wanted) => {
+            Ok(renamed(server, &handle_of(from), name, &handle_of(to), to_name)? == wanted)
+        }
         Case::SetAttr(node, mode, uid, gid) => {
             Ok(attr_set(server, &handle_of(node), mode, uid, gid)? == Ok(()))
         }

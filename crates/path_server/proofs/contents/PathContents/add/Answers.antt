@@ -1,4 +1,4 @@
-use Rattle.path_server.proofs.Rows.{on_ok}
+use Rattle.path_store.proofs.Rows.{on_ok}
 use Rattle.path_server.proofs.ContentLaws.{added-bytes}
 use Rattle.path_server.proofs.contents.PathContents.add.Goals as goal
 

@@ -1,5 +1,5 @@
 use Rattle.std.proofs.Common.{refl}
-use Rattle.path_server.proofs.Rows.{insert-filled_rows}
+use Rattle.path_store.proofs.Rows.{insert-filled_rows}
 use Rattle.path_server.proofs.contents.PathContents.insert.Goals as goal
 
 pub returns : goal.returns

@@ -29,6 +29,7 @@ invariant_of-self-2 c =
             c.len-len.ensures,
             c.in_ok-bytes.bytes.ok.0,
           )) c.requires.room;
+      stored = λ _. s.stored c.requires.held;
     }
 
 pub returns-clause-ok : goal.returns-clause-ok

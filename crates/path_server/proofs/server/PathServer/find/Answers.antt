@@ -3,7 +3,7 @@ use Rattle.std.proofs.Common.{rules, ◌≢◌, sym, ◌∙◌}
 use Rattle.nfs2_types.specs.contracts.fattr.Kind.{the_type}
 use Rattle.server_trait.proofs.TreeLaws.{is_some_and}
 use Rattle.path_server.specs.declared.node.PathNode.{PathNode}
-use Rattle.path_server.proofs.Rows.{get-rows}
+use Rattle.path_store.proofs.Rows.{get-rows}
 use Rattle.path_server.proofs.server.PathServer.find.Goals as goal
 
 pub returns-in-Some : goal.returns-in-Some

@@ -1,0 +1,7 @@
+-- Handles that are serial numbers.
+use Rattle.std.specs.Prelude.{ℕ, List, ◌++◌, replicate}
+use Rattle.std.specs.Int.{w64, to_be_bytes}
+
+-- the handle of a serial number
+unfoldable pub serial_bytes : ℕ → List ℕ
+serial_bytes n = to_be_bytes w64 n ++ replicate 24 0
