@@ -1,5 +1,7 @@
-pub mod Files
+pub mod Adds
+pub mod Drops
 pub mod Kinds
-pub mod News
-pub mod Objects
-pub mod Places
+pub mod NameRows
+pub mod Present
+pub mod Renames
+pub mod RowParents

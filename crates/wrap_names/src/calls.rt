@@ -1,4 +1,4 @@
-//! The procedures that change names (RFC 1094, 2.2).
+//! The procedures on names (RFC 1094, 2.2).
 
 ghost use Rattle.std.specs.Prelude.{◌≡◌, ◌++◌, true, List, IfOk, OnOk};
 ghost use Rattle.nfs2_types.specs.Call.{call_of, call_fits};
@@ -9,14 +9,16 @@ ghost use Rattle.conf_map.specs.Stands.{Stands, StandsValid, AreWithin, HasRoom}
 ghost use Rattle.conf_map.specs.Notice.{Watched, NoticedAll};
 ghost use Rattle.wrap_names.specs.Kinds.{is_names_call};
 
-use crate::create::create;
-use crate::make_dir::make_dir;
-use crate::symlink::symlink;
+use crate::link::link;
+use crate::remove::remove;
+use crate::remove_dir::remove_dir;
+use crate::rename::rename;
 use conf_map::Modify;
 use nfs2_types::{Args, Cred, Limits, NfsResult, Time};
 use server_trait::{ConfTable, FileServer, Srv, WrapErr};
+use wrap_make::make_proc;
 
-/// Does a call that changes names, and tells `saver` of each object before the first change.
+/// Does a call on a name, and tells `saver` of each object before the first change.
 /// After `Down`, where the server failed, and after `NoMemory` server and table stand for nothing.
 pub fn names_proc<M: Modify>(
     server: &mut Srv,
@@ -52,19 +54,25 @@ pub fn names_proc<M: Modify>(
     ensures watched { Watched (state server.old) (state server.new) result }
 {
     match args {
-        Args::Create { dir, name, sattr } => {
-            create(server, table, limits, cred, time, dir, name, sattr, saver)
+        Args::Remove { dir, name } => {
+            remove(server, table, limits, cred, time, dir, name, saver)
         }
-        Args::Symlink {
-            dir,
+        Args::Rename {
+            from,
             name,
-            text,
-            sattr,
-        } => symlink(
-            server, table, limits, cred, time, dir, name, text, sattr, saver,
+            to,
+            to_name,
+        } => rename(
+            server, table, limits, cred, time, from, name, to, to_name, saver,
         ),
-        Args::MkDir { dir, name, sattr } => {
-            make_dir(server, table, limits, cred, time, dir, name, sattr, saver)
+        Args::RmDir { dir, name } => {
+            remove_dir(server, table, limits, cred, time, dir, name, saver)
+        }
+        Args::Link { node, dir, name } => {
+            link(server, table, limits, cred, time, node, dir, name, saver)
+        }
+        Args::Create { .. } | Args::Symlink { .. } | Args::MkDir { .. } => {
+            make_proc(server, table, limits, cred, time, args, saver)
         }
         _ => unreachable!(),
     }

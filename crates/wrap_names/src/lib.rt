@@ -1,16 +1,19 @@
-//! Procedures that change names, over a boxed server.
+//! Procedures on names, over a boxed server.
 #![tactic(auto)]
 
+mod below;
 mod calls;
-mod create;
-mod make;
-mod make_dir;
-mod node;
-mod object;
-mod place;
-mod resize;
-mod spot;
-mod symlink;
+mod drop;
+mod ends;
+mod find;
+mod link;
+mod move_name;
+mod plan;
+mod remove;
+mod remove_dir;
+mod rename;
+mod replace;
+mod rows;
 mod tell;
 
 pub use calls::names_proc;

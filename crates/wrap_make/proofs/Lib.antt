@@ -1,0 +1,12 @@
+mod Additions
+pub mod ByCall
+pub mod ByKind
+mod Makings
+mod NameTests
+mod NewNodes
+mod OldFiles
+mod Refusals
+pub mod Refused
+mod Resizings
+mod Spots
+mod TableRows

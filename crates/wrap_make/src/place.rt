@@ -1,0 +1,114 @@
+//! Where a new object goes.
+
+ghost use Rattle.std.specs.Prelude.{◌≡◌, ◌≤◌, ℕ, List, Result, Ok, Err, true, nat_le, length, IfOk, OnOk};
+ghost use Rattle.abs_model.specs.declared.entry.Entry.{Entry};
+ghost use Rattle.conf_map.specs.Notice.{Watched};
+ghost use Rattle.conf_map.specs.Stands.{StandValid, StandsValid, AreWithin};
+ghost use Rattle.wrap_make.specs.Places.{NamedFound, IndexFound, PlaceFound};
+
+use conf_map::{Located, follow, in_dir, lowest_null, no_room};
+use nfs2_types::{Handle, Limits, Stat, is_dot, stat};
+use server_trait::{ConfTable, FileServer, Srv, WrapErr};
+
+/// A directory, and the object to which a name leads in it, if it has the name.
+#[derive(Clone, Copy, Debug)]
+pub struct Named {
+    pub dir: Located,
+    pub at: Option<Located>,
+}
+
+/// A directory that gets a name, and the index of the object to which it will lead.
+#[derive(Clone, Copy, Debug)]
+pub struct Place {
+    pub dir: Located,
+    pub index: u32,
+}
+
+/// A name that a call may give to a new object, or the status of the first refusal: STALE, NOTDIR, ACCES, or EXIST for
+/// a dot.
+pub fn find_name(
+    server: &mut Srv,
+    table: &ConfTable,
+    dir: &Handle,
+    name: &[u8],
+) -> Result<Result<Named, Stat>, WrapErr>
+    requires stands { (A : List Entry) × StandValid (state server.old).tree table.now A }
+    requires short { nat_le (length name.now) 255 ≡ true }
+    ensures found { IfOk result (λ r. (A : List Entry) →
+        StandValid (state server.old).tree table.now A →
+        NamedFound A table.now.rows.items dir.now name.now r) }
+    ensures same { OnOk result ((state server.new).tree ≡ (state server.old).tree) }
+    ensures watched { Watched (state server.old) (state server.new) result }
+{
+    let d = match in_dir(server, table, dir, name)? {
+        Ok(d) => d,
+        Err(refused) => return Ok(Err(refused)),
+    };
+    if is_dot(name) {
+        return Ok(Err(stat::EXIST));
+    }
+    let at = follow(server, table, &d, name)?;
+    Ok(Ok(Named { dir: d, at }))
+}
+
+/// The index of a new object of so many bytes, or `None` where no index is free or the bytes would pass their limit.
+pub fn new_index(
+    server: &mut Srv,
+    table: &ConfTable,
+    limits: &Limits,
+    bytes: u32,
+) -> Result<Option<u32>, WrapErr>
+    requires stands { (A : List Entry)
+        × StandsValid limits.now (state server.old).tree table.now A }
+    requires within { AreWithin limits.now }
+    requires few { bytes ≤ 1048576 }
+    ensures found { IfOk result (λ o. (A : List Entry) →
+        StandsValid limits.now (state server.old).tree table.now A → IndexFound A limits.now bytes o) }
+    ensures same { OnOk result ((state server.new).tree ≡ (state server.old).tree) }
+    ensures watched { Watched (state server.old) (state server.new) result }
+{
+    let Some(index) = lowest_null(table) else {
+        return Ok(None);
+    };
+    if no_room(server, table, limits, 0, 512 + bytes)? {
+        return Ok(None);
+    }
+    Ok(Some(index))
+}
+
+/// The place of a new object of so many bytes, or the status of the first refusal: STALE, NOTDIR, ACCES, EXIST or
+/// NOSPC.
+pub fn place_of(
+    server: &mut Srv,
+    table: &ConfTable,
+    limits: &Limits,
+    dir: &Handle,
+    name: &[u8],
+    bytes: u32,
+) -> Result<Result<Place, Stat>, WrapErr>
+    requires stands { (A : List Entry)
+        × StandsValid limits.now (state server.old).tree table.now A }
+    requires within { AreWithin limits.now }
+    requires short { nat_le (length name.now) 255 ≡ true }
+    requires few { bytes ≤ 1048576 }
+    ensures found { IfOk result (λ r. (A : List Entry) →
+        StandsValid limits.now (state server.old).tree table.now A →
+        PlaceFound A limits.now table.now.rows.items dir.now name.now bytes r) }
+    ensures same { OnOk result ((state server.new).tree ≡ (state server.old).tree) }
+    ensures watched { Watched (state server.old) (state server.new) result }
+{
+    let named = match find_name(server, table, dir, name)? {
+        Ok(named) => named,
+        Err(refused) => return Ok(Err(refused)),
+    };
+    if named.at.is_some() {
+        return Ok(Err(stat::EXIST));
+    }
+    match new_index(server, table, limits, bytes)? {
+        Some(index) => Ok(Ok(Place {
+            dir: named.dir,
+            index,
+        })),
+        None => Ok(Err(stat::NOSPC)),
+    }
+}

@@ -1,0 +1,23 @@
+use Rattle.wrap_names.proofs.Linkings.{has_room, link_dir_below, link_object_below, link_apart, link_stands}
+use Rattle.wrap_names.proofs.link.add_link.Goals as goal
+
+pub add_name-requires-clause-room : goal.add_name-requires-clause-room
+add_name-requires-clause-room g c = has_room _ c.args.table.now c.requires.0 c.args.name.now c.args.new.now.dir
+    c.args.new.now.at c.requires.1
+
+pub change_rows-requires-clause-dir : goal.change_rows-requires-clause-dir
+change_rows-requires-clause-dir g c = link_dir_below _ c.args.table.now c.requires.0 c.args.name.now
+    c.args.new.now.dir c.args.new.now.at c.requires.1
+
+pub change_rows-requires-clause-index : goal.change_rows-requires-clause-index
+change_rows-requires-clause-index g c = link_object_below _ c.args.table.now c.requires.0 c.args.name.now
+    c.args.new.now.dir c.args.new.now.at c.requires.1
+
+pub change_rows-requires-clause-apart : goal.change_rows-requires-clause-apart
+change_rows-requires-clause-apart g c = link_apart _ c.args.table.now c.requires.0 c.args.name.now
+    c.args.new.now.dir c.args.new.now.at c.requires.1
+
+pub returns-clause-stands : goal.returns-clause-stands
+returns-clause-stands g c A can = link_stands _ c.args.table.now A c.args.name.now c.args.new.now.dir
+    c.args.new.now.at can c.args.time c.change_rows.new.table c.change_rows.ensures.changed _
+    c.in_ok-add_name.ensures.named

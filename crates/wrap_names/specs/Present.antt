@@ -1,0 +1,95 @@
+-- Names that a call takes out or adds: their tests, and where they lead (RFC 1094, 2.2.11, 2.2.13 and 2.2.16).
+use Rattle.std.specs.Prelude.{◌≡◌, ℕ, true, false, not, nat_lt, if◌then◌else◌, length, List, ◌∷◌, [], ◌++◌, Option, Some, None, Result, Ok, Err}
+use Rattle.nfs2_types.specs.declared.Stat.{Stat}
+use Rattle.nfs2_types.specs.declared.stat.TheConstants.{PERM, NOENT, NOTDIR, ISDIR, NOTEMPTY}
+use Rattle.nfs2_types.specs.Names.{is_name, is_dot}
+use Rattle.server_trait.specs.declared.server.NodeAttr.{NodeAttr}
+use Rattle.server_trait.specs.declared.bench.ConfEntry.{ConfEntry}
+use Rattle.abs_model.specs.declared.entry.Entry.{Entry}
+use Rattle.abs_model.specs.Objects.{is_dir, names_of}
+use Rattle.abs_model.specs.Array.{entry_at, at, has_name, target}
+use Rattle.abs_model.specs.Machine.{Refusal, ◌answers◌, first_of, in_dir}
+use Rattle.conf_map.specs.Found.{is_dir_kind, IsDirCall, NameFound, IsLed}
+use Rattle.wrap_names.specs.declared.find.Named.{Named}
+use Rattle.wrap_names.specs.declared.find.Found.{Found}
+
+-- NAMES
+
+-- the tests of a directory and of a name that may be taken out or added
+abbrev pub name_tests : List Entry → List ℕ → List ℕ → List Refusal
+name_tests A dir name = in_dir A dir name ++ (is_dot name answers PERM) ∷ []
+
+-- the directory of a call, and where its name leads
+pub record IsNamed (A : List Entry) (rows : List ConfEntry) (dir name : List ℕ) (n : Named) : Type 0 where
+  pub in_dir : IsDirCall A rows dir name n.dir
+  pub no_dot : is_dot name ≡ false
+  pub good : is_name name ≡ true
+  pub found : NameFound A rows n.dir.index name n.at
+
+-- where a name leads, or the status of the first refusal
+abbrev pub NamedFound : List Entry → List ConfEntry → List ℕ → List ℕ → Result Named Stat → Type 0
+NamedFound A rows dir name (Ok n) = IsNamed A rows dir name n
+NamedFound A rows dir name (Err s) = first_of (name_tests A dir name) ≡ Some s
+
+-- NAMES THAT ARE THERE
+
+-- the tests of a name that has to be there
+abbrev pub old_tests : List Entry → List ℕ → List ℕ → List Refusal
+old_tests A dir name =
+    in_dir A dir name ++ (is_dot name answers PERM) ∷ (not (has_name A (at A dir) name) answers NOENT) ∷ []
+
+-- the directory of a call, and the object to which its name leads
+pub record IsOld (A : List Entry) (rows : List ConfEntry) (dir name : List ℕ) (f : Found) : Type 0 where
+  pub in_dir : IsDirCall A rows dir name f.dir
+  pub no_dot : is_dot name ≡ false
+  pub good : is_name name ≡ true
+  pub led : IsLed A rows f.dir.index name f.at
+
+-- an object by its name, or the status of the first refusal
+abbrev pub OldFound : List Entry → List ConfEntry → List ℕ → List ℕ → Result Found Stat → Type 0
+OldFound A rows dir name (Ok f) = IsOld A rows dir name f
+OldFound A rows dir name (Err s) = first_of (old_tests A dir name) ≡ Some s
+
+-- FILES AND LINKS
+
+-- the tests of REMOVE
+abbrev pub file_tests : List Entry → List ℕ → List ℕ → List Refusal
+file_tests A dir name = in_dir A dir name ++
+    (is_dot name answers PERM) ∷
+    (not (has_name A (at A dir) name) answers NOENT) ∷
+    (is_dir (entry_at A (target A (at A dir) name)) answers ISDIR) ∷ []
+
+-- a name that leads to no directory
+pub record IsFileName (A : List Entry) (rows : List ConfEntry) (dir name : List ℕ) (f : Found) : Type 0 where
+  pub old : IsOld A rows dir name f
+  pub no_dir : is_dir (entry_at A f.at.index) ≡ false
+
+-- a file or a link by its name, or the status of the first refusal
+abbrev pub FileFound : List Entry → List ConfEntry → List ℕ → List ℕ → Result Found Stat → Type 0
+FileFound A rows dir name (Ok f) = IsFileName A rows dir name f
+FileFound A rows dir name (Err s) = first_of (file_tests A dir name) ≡ Some s
+
+-- DIRECTORIES
+
+-- the tests of RMDIR
+abbrev pub dir_tests : List Entry → List ℕ → List ℕ → List Refusal
+dir_tests A dir name = in_dir A dir name ++
+    (is_dot name answers PERM) ∷
+    (not (has_name A (at A dir) name) answers NOENT) ∷
+    (not (is_dir (entry_at A (target A (at A dir) name))) answers NOTDIR) ∷
+    (nat_lt 0 (length (names_of (entry_at A (target A (at A dir) name)))) answers NOTEMPTY) ∷ []
+
+-- why a node is not removed as a directory, if it isn't
+abbrev pub no_removal : NodeAttr → Option Stat
+no_removal a = if is_dir_kind a.kind then (if nat_lt 0 a.size then Some NOTEMPTY else None) else Some NOTDIR
+
+-- a name that leads to a directory without names
+pub record IsDirName (A : List Entry) (rows : List ConfEntry) (dir name : List ℕ) (f : Found) : Type 0 where
+  pub old : IsOld A rows dir name f
+  pub is_dir : is_dir (entry_at A f.at.index) ≡ true
+  pub empty : names_of (entry_at A f.at.index) ≡ []
+
+-- an empty directory by its name, or the status of the first refusal
+abbrev pub DirFound : List Entry → List ConfEntry → List ℕ → List ℕ → Result Found Stat → Type 0
+DirFound A rows dir name (Ok f) = IsDirName A rows dir name f
+DirFound A rows dir name (Err s) = first_of (dir_tests A dir name) ≡ Some s
