@@ -9,7 +9,7 @@ use Rattle.server_trait.specs.declared.ConfTable.{ConfTable}
 use Rattle.server_trait.specs.declared.FaultPoint.{FaultPoint}
 use Rattle.conf_map.specs.Stands.{StandsValid}
 use Rattle.nfs2_types.specs.Times.{is_time}
-use Rattle.dispatch.specs.Answer.{answer, is_built}
+use Rattle.dispatch.specs.Answer.{answer}
 use Rattle.log_format.specs.declared.Event.{Event}
 use Rattle.log_format.specs.declared.Event.TheVariants.{Request as Ask, RunAll, End, Unbuilt}
 use Rattle.log_format.specs.declared.Line.{Line}
@@ -93,10 +93,9 @@ abbrev pub HasArray : Limits → Option Tree → ConfTable → Option ℕ → Ty
 HasArray limits tree table None = Unit {0}
 HasArray limits tree table (Some place) = (A : List Entry) × StandsValid limits tree table A
 
--- a record that can be stepped: one more request may come, at a time, and can be answered
+-- a record that can be stepped: one more request may come, at a time
 abbrev pub CanStep : List Request → Event → Type 0
-CanStep requests (Ask client time bytes) =
-    (length requests < 1000000) × (is_time time ≡ true) × (is_built bytes ≡ true)
+CanStep requests (Ask client time bytes) = (length requests < 1000000) × (is_time time ≡ true)
 CanStep requests RunAll = Unit {0}
 CanStep requests End = Unit {0}
 CanStep requests Unbuilt = ⊥

@@ -3,7 +3,6 @@
 ghost use Rattle.std.specs.Prelude.{OnErr, option_map, slice_get, ◌-◌, true, suc, length, ◌≡◌, ◌<◌, ◌≤◌, ◌^◌, ◌++◌, ◌∷◌, [], IfOk, OnOk};
 ghost use Rattle.nfs2_types.specs.Times.{is_time};
 ghost use Rattle.conf_map.specs.Stands.{AreWithin, HasRoom};
-ghost use Rattle.dispatch.specs.Answer.{is_built};
 ghost use Rattle.cluster.specs.OverBench.{Starts};
 
 use crate::request::Request;
@@ -157,7 +156,6 @@ impl Cluster {
     fn ask(&mut self, alloc: Global, time: Time, bytes: Blob) -> Result<Vec<Line>, NoMemory>
         requires room { length self.old.requests < 1000000 }
         requires time { is_time time ≡ true }
-        requires built { is_built bytes ≡ true }
         requires few { self.old.events < 2 ^ 32 }
         ensures after { OnOk result (self.new ≡ record self.old {
           requests = self.old.requests ++ record { time = time; bytes = bytes } ∷ [];

@@ -5,7 +5,6 @@ ghost use Rattle.nfs2_types.specs.Times.{is_time};
 ghost use Rattle.abs_model.specs.declared.Entry.{Entry};
 ghost use Rattle.conf_map.specs.Stands.{StandsValid, AreWithin, HasRoom};
 ghost use Rattle.conf_map.specs.Notice.{Watched};
-ghost use Rattle.dispatch.specs.Answer.{is_built};
 ghost use Rattle.cluster.specs.OverBench.{Answered};
 
 use crate::request::Request;
@@ -27,7 +26,6 @@ pub fn run(
     requires within { AreWithin limits.now }
     requires room { HasRoom limits.now (state server.old).limits }
     requires time { is_time request.now.time ≡ true }
-    requires built { is_built request.now.bytes ≡ true }
     ensures answered { IfOk result (Answered limits.now request.now
         (state server.old).tree (state server.new).tree table.old table.new) }
     ensures watched { Watched (state server.old) (state server.new) result }

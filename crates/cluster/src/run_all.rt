@@ -5,7 +5,6 @@ ghost use Rattle.std.specs.List.{flat_map};
 ghost use Rattle.nfs2_types.specs.Times.{is_time};
 ghost use Rattle.abs_model.specs.declared.Entry.{Entry};
 ghost use Rattle.conf_map.specs.Stands.{StandsValid, AreWithin, HasRoom};
-ghost use Rattle.dispatch.specs.Answer.{is_built};
 ghost use Rattle.cluster.specs.Step.{decision_line as line_of_decision};
 ghost use Rattle.cluster.specs.Run.{failed_of};
 ghost use Rattle.cluster.specs.RunAll.{RanAll, downs_of};
@@ -61,7 +60,6 @@ pub fn run_all(
     requires place { start ≤ length requests.now }
     requires few { length requests.now ≤ 1000000 }
     requires times { All (λ r. is_time r.time ≡ true) requests.now }
-    requires built { All (λ r. is_built r.bytes ≡ true) requests.now }
     ensures ran { IfOk result (λ ran. RanAll limits.now requests.now start
         (state server.old).tree (state server.new).tree table.old table.new ran.failed ran.lines.items) }
     ensures downs { IfOk result (λ ran. flat_map failed_of ran.lines.items ≡ downs_of ran.failed) }

@@ -1,7 +1,8 @@
 -- From what a call's parts did to what its answer is.
-use Rattle.std.proofs.Common.{◌≡◌, ℕ, Bool, true, false, cond, List, ◌++◌, Option, Result, Ok, Err, refl, sym, ◌∙◌, ap, subst, drop, Bor}
-use Rattle.std.specs.Prelude.{IfOk, OnOk, OnErr, ◌==◌, ◌&&◌}
+use Rattle.std.proofs.Common.{◌≡◌, ◌≢◌, ◌≤◌, ℕ, Bool, true, false, cond, List, ◌++◌, Option, Result, Ok, Err, refl, sym, ◌∙◌, ap, subst, drop, Bor, arith}
+use Rattle.std.specs.Prelude.{IfOk, OnOk, OnErr, ◌==◌}
 use Rattle.std.proofs.lemmas.List.{append-nil}
+use Rattle.std.proofs.lemmas.Bool.Decides.{nat_tests}
 use Rattle.nfs2_types.specs.declared.NoMemory.{NoMemory}
 use Rattle.nfs2_types.specs.declared.Limits.{Limits}
 use Rattle.nfs2_types.specs.declared.Time.{Time}
@@ -12,13 +13,15 @@ use Rattle.nfs2_types.specs.declared.NfsResult.{NfsResult}
 use Rattle.nfs2_types.specs.declared.args.Args.{Args}
 use Rattle.nfs2_types.specs.declared.args.Sattr.{Sattr}
 use Rattle.nfs2_types.specs.Call.{Call, call_of}
-use Rattle.xdr_core.specs.Grammar.{Stop, reads_all, GivesAll}
+use Rattle.xdr_core.specs.Grammar.{Stop, reads_all}
 use Rattle.rpc_core.specs.declared.CallHead.TheVariants as heads
 use Rattle.rpc_core.specs.declared.Refusal.{Refusal}
-use Rattle.rpc_core.specs.Call.{head_in}
+use Rattle.rpc_core.specs.Call.{head_in, last_of, IsServed}
 use Rattle.rpc_core.specs.Reply.{success_text}
 use Rattle.nfs2_args.specs.Forms.{args_form}
 use Rattle.nfs2_results.specs.Spelling.{result_text}
+use Rattle.mount1_proto.specs.Calls.{MountCall}
+use Rattle.mount1_proto.specs.Forms.{mount_form}
 use Rattle.abs_model.specs.declared.Entry.{Entry}
 use Rattle.abs_model.specs.Valid.{Valid}
 use Rattle.abs_model.specs.Machine as machine
@@ -29,7 +32,7 @@ use Rattle.server_trait.specs.declared.WrapErr.TheVariants as wrap
 use Rattle.conf_map.specs.Stands.{Stands, StandsValid}
 use Rattle.conf_map.specs.Notice.{NoticedAll}
 use Rattle.wrap_read.specs.Reads.{is_read_call}
-use Rattle.dispatch.specs.Answer.{Answer, answer, stays, refused, by_args, by_head, is_built, is_built_call, built_args, built_head}
+use Rattle.dispatch.specs.Answer.{Answer, answer, stays, refused, by_args, mount_word, by_head}
 use Rattle.dispatch.specs.Steps.{Performs, Answers}
 use Rattle.dispatch.proofs.Results.{read_array, read_told}
 
@@ -44,35 +47,39 @@ module _ (A : List Entry) (limits : Limits) (t : Time) (bytes : List ℕ) where
   unfolding answer
   answer_refused xid why is = ap (by_head A limits t bytes) is
 
-  pub answer_called : (xid prog vers proc : ℕ) (cred : Cred) (args_at : ℕ) (r : Result Call Stop) → head_in bytes ≡ heads.Call xid prog vers proc cred args_at → (prog == 100003) ≡ true →
+  pub answer_nfs : (xid prog vers proc : ℕ) (cred : Cred) (args_at : ℕ) (r : Result Call Stop) → head_in bytes ≡ heads.Call xid prog vers proc cred args_at → prog ≡ 100003 →
       reads_all (args_form proc) (drop args_at bytes) ≡ r → answer A limits t bytes ≡ by_args A limits t xid cred r
   unfolding answer
-  answer_called xid prog vers proc cred args_at r is nfs read =
+  answer_nfs xid prog vers proc cred args_at r is nfs read =
+      let same : (prog == 100003) ≡ true = grind (arith, nat_tests) in
       ap (by_head A limits t bytes) is
-      ∙ ap (λ b. cond b (by_args A limits t xid cred (reads_all (args_form proc) (drop args_at bytes))) (stays A words.Silent)) nfs
+      ∙ ap (λ b. cond b (by_args A limits t xid cred (reads_all (args_form proc) (drop args_at bytes))) (stays A (mount_word A xid (reads_all (mount_form proc) (drop args_at bytes))))) same
       ∙ ap (by_args A limits t xid cred) read
 
-both_true : (a b : Bool) → (a && b) ≡ true → (a ≡ true) × (b ≡ true)
-both_true true b e = (refl, e)
-both_true false b e = absurd (let bad : false ≡ true = e in cc)
+  pub answer_mount : (xid prog vers proc : ℕ) (cred : Cred) (args_at : ℕ) (r : Result MountCall Stop) → head_in bytes ≡ heads.Call xid prog vers proc cred args_at → prog ≢ 100003 →
+      reads_all (mount_form proc) (drop args_at bytes) ≡ r → answer A limits t bytes ≡ stays A (mount_word A xid r)
+  unfolding answer
+  answer_mount xid prog vers proc cred args_at r is other read =
+      let differ : (prog == 100003) ≡ false = grind (arith, nat_tests) in
+      ap (by_head A limits t bytes) is
+      ∙ ap (λ b. cond b (by_args A limits t xid cred (reads_all (args_form proc) (drop args_at bytes))) (stays A (mount_word A xid (reads_all (mount_form proc) (drop args_at bytes))))) differ
+      ∙ ap (λ (x : Result MountCall Stop). stays A (mount_word A xid x)) read
 
--- a call that is built is one of NFS, and its arguments are of a procedure that is built, or wrong
-pub built_call : (bytes : List ℕ) (xid prog vers proc : ℕ) (cred : Cred) (args_at : ℕ) → head_in bytes ≡ heads.Call xid prog vers proc cred args_at → is_built bytes ≡ true →
-    ((prog == 100003) ≡ true) × (built_args (reads_all (args_form proc) (drop args_at bytes)) ≡ true)
-unfolding is_built
-built_call bytes xid prog vers proc cred args_at is built =
-    both_true (prog == 100003) (built_args (reads_all (args_form proc) (drop args_at bytes))) (sym (ap (built_head bytes) is) ∙ built)
+-- the procedures of a call of NFS, and of one of MOUNT
+pub nfs_procedure : (prog vers proc : ℕ) → IsServed prog vers proc → prog ≡ 100003 → proc ≤ 17
+nfs_procedure prog vers proc served is = subst (λ (p : ℕ). proc ≤ last_of p) is served.procedure
 
--- the arguments that were read are those of a procedure that is built
-pub built_read : (proc : ℕ) (bytes : List ℕ) (args : Args) → GivesAll call_of (Ok args) (reads_all (args_form proc) bytes) → built_args (reads_all (args_form proc) bytes) ≡ true → is_built_call (call_of args) ≡ true
-built_read proc bytes args read built = sym (ap built_args read) ∙ built
+pub mount_procedure : (prog vers proc : ℕ) → IsServed prog vers proc → prog ≢ 100003 → proc ≤ 5
+mount_procedure prog vers proc served other =
+    let differ : (prog == 100003) ≡ false = grind (arith, nat_tests) in
+    subst (λ (b : Bool). proc ≤ cond b 17 5) differ served.procedure
 
 -- ANSWERS
 
 -- nothing changed
-pub stays_answers : {M : Type 0} {told_of : M → List ℕ} {noticed : M → List Entry → ℕ → M → Type 0} {limits : Limits} {t : Time} {bytes : List ℕ} {A : List Entry} {w : Word}
-    {tree : Option Tree} {table : ConfTable} {m : M} → answer A limits t bytes ≡ stays A w → StandsValid limits tree table A → Answers told_of noticed limits t bytes A w tree table m m
-stays_answers {M} {told_of} {noticed} {limits} {t} {bytes} {A} {w} {tree} {table} {m} is sv = record {
+pub stays_answers : {M : Type 0} {told_of : M → List ℕ} {noticed : M → List Entry → ℕ → M → Type 0} {limits : Limits} {A : List Entry} {a : Answer} {w : Word} {tree : Option Tree} {table : ConfTable} {m : M} →
+    a ≡ stays A w → StandsValid limits tree table A → Answers told_of noticed limits A a w tree table m m
+stays_answers {M} {told_of} {noticed} {limits} {A} {a} {w} {tree} {table} {m} is sv = record {
   word_is = ap (λ (a : Answer). a.word) (sym is);
   stands = subst (λ (a : Answer). Stands tree table a.array) (sym is) sv.stands;
   valid = subst (λ (a : Answer). Valid limits a.array) (sym is) sv.valid;
@@ -80,12 +87,17 @@ stays_answers {M} {told_of} {noticed} {limits} {t} {bytes} {A} {w} {tree} {table
   notices = subst (λ (a : Answer). NoticedAll noticed A m a.told m) (sym is) refl;
 }
 
+-- what is given by one name of an answer is given by the other
+pub same_answers : {M : Type 0} {told_of : M → List ℕ} {noticed : M → List Entry → ℕ → M → Type 0} {limits : Limits} {A : List Entry} {a b : Answer} {w : Word} {tree : Option Tree} {table : ConfTable} {old new : M} →
+    a ≡ b → Answers told_of noticed limits A b w tree table old new → Answers told_of noticed limits A a w tree table old new
+same_answers {M} {told_of} {noticed} {limits} {A} {a} {b} {w} {tree} {table} {old} {new} is h = subst (λ (x : Answer). Answers told_of noticed limits A x w tree table old new) (sym is) h
+
 -- a procedure was performed, and its result written
-pub performs_answers : {M : Type 0} {told_of : M → List ℕ} {noticed : M → List Entry → ℕ → M → Type 0} {limits : Limits} {cred : Cred} {t : Time} {bytes : List ℕ} {A : List Entry}
-    {tree : Option Tree} {table : ConfTable} {old new : M} (xid : ℕ) (call : Call) (r : NfsResult) (w : Word) → answer A limits t bytes ≡ by_args A limits t xid cred (Ok call) →
+pub performs_answers : {M : Type 0} {told_of : M → List ℕ} {noticed : M → List Entry → ℕ → M → Type 0} {limits : Limits} {cred : Cred} {t : Time} {A : List Entry} {a : Answer}
+    {tree : Option Tree} {table : ConfTable} {old new : M} (xid : ℕ) (call : Call) (r : NfsResult) (w : Word) → a ≡ by_args A limits t xid cred (Ok call) →
     Valid limits (machine.array_after A limits cred t call) → Performs told_of noticed limits cred t call A r tree table old new → w ≡ words.Reply (success_text xid ++ result_text r) →
-    Answers told_of noticed limits t bytes A w tree table old new
-performs_answers {M} {told_of} {noticed} {limits} {cred} {t} {bytes} {A} {tree} {table} {old} {new} xid call r w is valid p written = record {
+    Answers told_of noticed limits A a w tree table old new
+performs_answers {M} {told_of} {noticed} {limits} {cred} {t} {A} {a} {tree} {table} {old} {new} xid call r w is valid p written = record {
   word_is = written ∙ ap (λ (x : NfsResult). words.Reply (success_text xid ++ result_text x)) p.result_is ∙ ap (λ (a : Answer). a.word) (sym is);
   stands = subst (λ (a : Answer). Stands tree table a.array) (sym is) p.stands;
   valid = subst (λ (a : Answer). Valid limits a.array) (sym is) valid;
@@ -130,24 +142,31 @@ read_performs M told_of noticed limits cred t call s0 tree table m (Ok x) kind a
     }
 read_performs M told_of noticed limits cred t call s0 tree table m (Err e) kind answers same = tt
 
--- what is built, and neither writes nor makes a name, changes nothing
-pub is_read : (a : Args) → is_built_call (call_of a) ≡ true → ((node : List ℕ) (sattr : Sattr) → a ≡ Args.SetAttr node sattr → ⊥) →
+-- what neither writes nor goes to the procedures on names changes nothing
+pub is_read : (a : Args) → ((node : List ℕ) (sattr : Sattr) → a ≡ Args.SetAttr node sattr → ⊥) →
     ((file : List ℕ) (offset : ℕ) (bytes : Bor (List ℕ)) → a ≡ Args.Write file offset bytes → ⊥) →
     ((dir : List ℕ) (name : Bor (List ℕ)) (sattr : Sattr) → a ≡ Args.Create dir name sattr → ⊥) →
+    ((dir : List ℕ) (name : Bor (List ℕ)) → a ≡ Args.Remove dir name → ⊥) →
+    ((from : List ℕ) (name : Bor (List ℕ)) (to : List ℕ) (to_name : Bor (List ℕ)) → a ≡ Args.Rename from name to to_name → ⊥) →
+    ((node dir : List ℕ) (name : Bor (List ℕ)) → a ≡ Args.Link node dir name → ⊥) →
     ((dir : List ℕ) (name text : Bor (List ℕ)) (sattr : Sattr) → a ≡ Args.Symlink dir name text sattr → ⊥) →
-    ((dir : List ℕ) (name : Bor (List ℕ)) (sattr : Sattr) → a ≡ Args.MkDir dir name sattr → ⊥) → is_read_call (call_of a) ≡ true
-is_read Args.Null h set write file link make = refl
-is_read Args.Root h set write file link make = refl
-is_read Args.WriteCache h set write file link make = refl
-is_read (Args.GetAttr node) h set write file link make = refl
-is_read (Args.SetAttr node sattr) h set write file link make = absurd (set node sattr refl)
-is_read (Args.Lookup dir name) h set write file link make = refl
-is_read (Args.ReadLink node) h set write file link make = refl
-is_read (Args.Read node offset count) h set write file link make = refl
-is_read (Args.Write node offset bytes) h set write file link make = absurd (write node offset bytes refl)
-is_read (Args.Create dir name sattr) h set write file link make = absurd (file dir name sattr refl)
-is_read (Args.Symlink dir name text sattr) h set write file link make = absurd (link dir name text sattr refl)
-is_read (Args.MkDir dir name sattr) h set write file link make = absurd (make dir name sattr refl)
-is_read (Args.ReadDir dir cookie count) h set write file link make = refl
-is_read (Args.StatFs node) h set write file link make = refl
-is_read _ h set write file link make = absurd (let bad : false ≡ true = h in cc)
+    ((dir : List ℕ) (name : Bor (List ℕ)) (sattr : Sattr) → a ≡ Args.MkDir dir name sattr → ⊥) →
+    ((dir : List ℕ) (name : Bor (List ℕ)) → a ≡ Args.RmDir dir name → ⊥) → is_read_call (call_of a) ≡ true
+is_read Args.Null set write create remove rename link symlink make_dir remove_dir = refl
+is_read Args.Root set write create remove rename link symlink make_dir remove_dir = refl
+is_read Args.WriteCache set write create remove rename link symlink make_dir remove_dir = refl
+is_read (Args.GetAttr node) set write create remove rename link symlink make_dir remove_dir = refl
+is_read (Args.SetAttr node sattr) set write create remove rename link symlink make_dir remove_dir = absurd (set node sattr refl)
+is_read (Args.Lookup dir name) set write create remove rename link symlink make_dir remove_dir = refl
+is_read (Args.ReadLink node) set write create remove rename link symlink make_dir remove_dir = refl
+is_read (Args.Read node offset count) set write create remove rename link symlink make_dir remove_dir = refl
+is_read (Args.Write node offset bytes) set write create remove rename link symlink make_dir remove_dir = absurd (write node offset bytes refl)
+is_read (Args.Create dir name sattr) set write create remove rename link symlink make_dir remove_dir = absurd (create dir name sattr refl)
+is_read (Args.Remove dir name) set write create remove rename link symlink make_dir remove_dir = absurd (remove dir name refl)
+is_read (Args.Rename from name to to_name) set write create remove rename link symlink make_dir remove_dir = absurd (rename from name to to_name refl)
+is_read (Args.Link node dir name) set write create remove rename link symlink make_dir remove_dir = absurd (link node dir name refl)
+is_read (Args.Symlink dir name text sattr) set write create remove rename link symlink make_dir remove_dir = absurd (symlink dir name text sattr refl)
+is_read (Args.MkDir dir name sattr) set write create remove rename link symlink make_dir remove_dir = absurd (make_dir dir name sattr refl)
+is_read (Args.RmDir dir name) set write create remove rename link symlink make_dir remove_dir = absurd (remove_dir dir name refl)
+is_read (Args.ReadDir dir cookie count) set write create remove rename link symlink make_dir remove_dir = refl
+is_read (Args.StatFs node) set write create remove rename link symlink make_dir remove_dir = refl

@@ -13,7 +13,7 @@ use Rattle.server_trait.specs.Tree.{Tree}
 use Rattle.server_trait.specs.declared.ConfTable.{ConfTable}
 use Rattle.conf_map.specs.Stands.{Stands}
 use Rattle.conf_map.specs.Notice.{NoticedAll}
-use Rattle.dispatch.specs.Answer.{answer}
+use Rattle.dispatch.specs.Answer.{Answer}
 
 -- a procedure gives the machine's result, leaves tree and table standing for its array, and tells its objects in order
 pub record Performs {M : Type 0} (told_of : M → List ℕ) (noticed : M → List Entry → ℕ → M → Type 0)
@@ -24,12 +24,12 @@ pub record Performs {M : Type 0} (told_of : M → List ℕ) (noticed : M → Lis
   pub told : told_of new ≡ told_of old ++ machine.told A limits cred t call
   pub notices : NoticedAll noticed A old (machine.told A limits cred t call) new
 
--- the same from bytes to bytes; the array stays valid
+-- an answer is given: its word is said, tree and table stand for its array, which is valid, and its objects are told
 pub record Answers {M : Type 0} (told_of : M → List ℕ) (noticed : M → List Entry → ℕ → M → Type 0)
-    (limits : Limits) (t : Time) (bytes : List ℕ) (A : List Entry)
+    (limits : Limits) (A : List Entry) (a : Answer)
     (word : Word) (tree : Option Tree) (table : ConfTable) (old new : M) : Type 0 where
-  pub word_is : word ≡ (answer A limits t bytes).word
-  pub stands : Stands tree table (answer A limits t bytes).array
-  pub valid : Valid limits (answer A limits t bytes).array
-  pub told : told_of new ≡ told_of old ++ (answer A limits t bytes).told
-  pub notices : NoticedAll noticed A old (answer A limits t bytes).told new
+  pub word_is : word ≡ a.word
+  pub stands : Stands tree table a.array
+  pub valid : Valid limits a.array
+  pub told : told_of new ≡ told_of old ++ a.told
+  pub notices : NoticedAll noticed A old a.told new
