@@ -1,9 +1,8 @@
 -- The records of a log: the first of them, and the others.
 use Rattle.std.proofs.Common.{◌≡◌, ℕ, suc, ◌+◌, ◌-◌, ◌<◌, Bool, true, false, cond, leb, inl, inr, List, [], ◌++◌, length, Option, Some, None, refl, subst, length-append, arith}
-use Rattle.std.specs.Prelude.{◌||◌, ◌&&◌, ◌%◌, ◌==◌, not}
+use Rattle.std.specs.Prelude.{◌||◌, ◌&&◌, ◌%◌, ◌==◌}
 use Rattle.nfs2_types.specs.declared.Time.{Time}
 use Rattle.nfs2_types.specs.Times.{is_time}
-use Rattle.dispatch.specs.Answer.{is_built}
 use Rattle.log_format.specs.Items.{◌>>=◌, word_at, opaque_at}
 use Rattle.log_format.specs.declared.Event.{Event}
 use Rattle.log_format.specs.declared.Event.TheVariants as records
@@ -61,23 +60,16 @@ pub or_false : (a b : Bool) → (a || b) ≡ false → (a ≡ false) × (b ≡ f
 or_false true b e = absurd cc
 or_false false b e = (refl, e)
 
-not_false : (a : Bool) → not a ≡ false → a ≡ true
-not_false true e = refl
-not_false false e = absurd cc
-
-request_can : (k asked : ℕ) (last : Option Time) (time : Time) (bytes : List ℕ) → judge_request k asked last time bytes ≡ verdict.Goes → (asked < 1000000) × (is_built bytes ≡ true)
-request_can k asked last time bytes e = elim (chosen (falls time last || leb 1000000 asked) verdict.Wrong (cond ((asked + 1) % k == 0 || not (is_built bytes)) verdict.Waits verdict.Goes) verdict.Goes e) [
+request_can : (k asked : ℕ) (last : Option Time) (time : Time) → judge_request k asked last time ≡ verdict.Goes → asked < 1000000
+request_can k asked last time e = elim (chosen (falls time last || leb 1000000 asked) verdict.Wrong (cond ((asked + 1) % k == 0) verdict.Waits verdict.Goes) verdict.Goes e) [
   | inl p ↦ absurd (let g : verdict.Wrong ≡ verdict.Goes = p.1 in cc)
-  | inr p ↦ elim (chosen ((asked + 1) % k == 0 || not (is_built bytes)) verdict.Waits verdict.Goes verdict.Goes p.1) [
-    | inl q ↦ absurd (let g : verdict.Waits ≡ verdict.Goes = q.1 in cc)
-    | inr q ↦ (grind (arith, (or_false (falls time last) (leb 1000000 asked) p.0).1), not_false (is_built bytes) (or_false ((asked + 1) % k == 0) (not (is_built bytes)) q.0).1)
-  ]
+  | inr p ↦ grind (arith, (or_false (falls time last) (leb 1000000 asked) p.0).1)
 ]
 
-never_last : (k asked : ℕ) (last : Option Time) (time : Time) (bytes : List ℕ) → judge_request k asked last time bytes ≡ verdict.Ends → ⊥
-never_last k asked last time bytes e = elim (chosen (falls time last || leb 1000000 asked) verdict.Wrong (cond ((asked + 1) % k == 0 || not (is_built bytes)) verdict.Waits verdict.Goes) verdict.Ends e) [
+never_last : (k asked : ℕ) (last : Option Time) (time : Time) → judge_request k asked last time ≡ verdict.Ends → ⊥
+never_last k asked last time e = elim (chosen (falls time last || leb 1000000 asked) verdict.Wrong (cond ((asked + 1) % k == 0) verdict.Waits verdict.Goes) verdict.Ends e) [
   | inl p ↦ (let g : verdict.Wrong ≡ verdict.Ends = p.1 in cc)
-  | inr p ↦ elim (chosen ((asked + 1) % k == 0 || not (is_built bytes)) verdict.Waits verdict.Goes verdict.Ends p.1) [
+  | inr p ↦ elim (chosen ((asked + 1) % k == 0) verdict.Waits verdict.Goes verdict.Ends p.1) [
     | inl q ↦ (let g : verdict.Waits ≡ verdict.Ends = q.1 in cc)
     | inr q ↦ (let g : verdict.Goes ≡ verdict.Ends = q.1 in cc)
   ]
@@ -137,14 +129,13 @@ record_timed taken e h =
 
 pub can_step : (k : ℕ) (q : List Request) (taken : List ℕ) (e : Event) → Spells record_at taken e → judge k q e ≡ verdict.Goes → CanStep q e
 can_step k q taken (records.Request client time bytes) h j =
-    let can = request_can k (length q) (last_time q) time bytes j in
-    (can.0, record_timed taken (records.Request client time bytes) h, can.1)
+    (request_can k (length q) (last_time q) time j, record_timed taken (records.Request client time bytes) h)
 can_step k q taken records.RunAll h j = tt
 can_step k q taken records.End h j = tt
 can_step k q taken records.Unbuilt h j = absurd (let g : verdict.Waits ≡ verdict.Goes = j in cc)
 
 pub last_can_step : (k : ℕ) (q : List Request) (e : Event) → judge k q e ≡ verdict.Ends → CanStep q e
-last_can_step k q (records.Request client time bytes) j = absurd (never_last k (length q) (last_time q) time bytes j)
+last_can_step k q (records.Request client time bytes) j = absurd (never_last k (length q) (last_time q) time j)
 last_can_step k q records.RunAll j = tt
 last_can_step k q records.End j = tt
 last_can_step k q records.Unbuilt j = absurd (let g : verdict.Waits ≡ verdict.Ends = j in cc)

@@ -1,12 +1,11 @@
 -- The log: a header and records, up to the first that stops a run.
-use Rattle.std.specs.Prelude.{ℕ, zero, suc, ◌+◌, ◌-◌, ◌*◌, ◌%◌, ◌==◌, ◌||◌, nat_lt, nat_le, Bool, false, not, List, [], ◌∷◌, length, Option, Some, None, slice_get, option_map, ◌++◌, if◌then◌else◌}
+use Rattle.std.specs.Prelude.{ℕ, zero, suc, ◌+◌, ◌-◌, ◌*◌, ◌%◌, ◌==◌, ◌||◌, nat_lt, nat_le, Bool, false, List, [], ◌∷◌, length, Option, Some, None, slice_get, option_map, ◌++◌, if◌then◌else◌}
 use Rattle.std.specs.List.{position_from}
 use Rattle.std.specs.Option.{option_map_or}
 use Rattle.nfs2_types.specs.declared.Limits.{Limits}
 use Rattle.nfs2_types.specs.declared.Time.{Time}
 use Rattle.nfs2_types.specs.Times.{is_before}
 use Rattle.server_trait.specs.declared.ServerLimits.{ServerLimits}
-use Rattle.dispatch.specs.Answer.{is_built}
 use Rattle.log_format.specs.declared.Event.{Event}
 use Rattle.log_format.specs.declared.Event.TheVariants as records
 use Rattle.log_format.specs.declared.Header.{Header}
@@ -27,16 +26,16 @@ abbrev pub falls : Time → Option Time → Bool
 falls time last = option_map_or (is_before time) last false
 
 -- A request is wrong where its time falls or there are too many; it waits where it comes at a checkpoint, since these are
--- not built yet, or where its call is not.
-abbrev pub judge_request : ℕ → ℕ → Option Time → Time → List ℕ → Verdict
-judge_request k asked last time bytes =
+-- not built yet.
+abbrev pub judge_request : ℕ → ℕ → Option Time → Time → Verdict
+judge_request k asked last time =
     if falls time last || nat_le 1000000 asked then Wrong
-    else if (asked + 1) % k == 0 || not (is_built bytes) then Waits
+    else if (asked + 1) % k == 0 then Waits
     else Goes
 
 -- what comes of a record behind these requests, with a checkpoint each k requests
 abbrev pub judge : ℕ → List Request → Event → Verdict
-judge k requests (records.Request client time bytes) = judge_request k (length requests) (last_time requests) time bytes
+judge k requests (records.Request client time bytes) = judge_request k (length requests) (last_time requests) time
 judge k requests records.RunAll = Goes
 judge k requests records.End = Ends
 judge k requests records.Unbuilt = Waits

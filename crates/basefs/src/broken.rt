@@ -107,6 +107,32 @@ impl FileServer for Broken {
         Err(SrvErr::Fault)
     }
 
+    fn link(&mut self, _node: &Handle, _dir: &Handle, _name: &[u8]) -> Result<(), SrvErr> {
+        self.fail();
+        Err(SrvErr::Fault)
+    }
+
+    fn remove(&mut self, _dir: &Handle, _name: &[u8]) -> Result<(), SrvErr> {
+        self.fail();
+        Err(SrvErr::Fault)
+    }
+
+    fn rmdir(&mut self, _dir: &Handle, _name: &[u8]) -> Result<(), SrvErr> {
+        self.fail();
+        Err(SrvErr::Fault)
+    }
+
+    fn rename(
+        &mut self,
+        _from: &Handle,
+        _name: &[u8],
+        _to: &Handle,
+        _to_name: &[u8],
+    ) -> Result<(), SrvErr> {
+        self.fail();
+        Err(SrvErr::Fault)
+    }
+
     fn wipe(&mut self) -> Result<(), SrvErr> {
         self.fail();
         Err(SrvErr::Fault)

@@ -1,6 +1,10 @@
 //! Runs of the program over memory. The numbers of the calls are those of RFC 5531 and RFC 1094.
 
 mod calls;
+mod mount;
+mod names;
+mod session;
+mod space;
 
 ghost use Rattle.std.specs.Prelude.{◌≤◌};
 

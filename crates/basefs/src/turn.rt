@@ -14,7 +14,6 @@ ghost use Rattle.basefs.specs.Going.{read_status as status_of_read, write_status
 use crate::status::Status;
 use crate::verdict::Verdict;
 use cluster::Cluster;
-use dispatch::is_built;
 use log_format::Event;
 use log_stream::{ReadErr, read_record, record_len, write_lines};
 use nfs2_types::{Blob, Time};
@@ -47,14 +46,14 @@ fn falls(time: Time, last: Option<Time>) -> bool
 }
 
 /// What comes of a request behind so many others.
-fn judge_request(k: u32, asked: usize, last: Option<Time>, time: Time, call: &[u8]) -> Verdict
+fn judge_request(k: u32, asked: usize, last: Option<Time>, time: Time) -> Verdict
     requires interval { 0 < k }
     requires few { asked < 2 ^ 32 }
-    ensures { result ≡ judge_request_of k asked last time call.now }
+    ensures { result ≡ judge_request_of k asked last time }
 {
     if falls(time, last) || asked >= MOST_REQUESTS {
         Verdict::Wrong
-    } else if (asked as u32 + 1) % k == 0 || !is_built(call) {
+    } else if (asked as u32 + 1) % k == 0 {
         Verdict::Waits
     } else {
         Verdict::Goes
@@ -67,13 +66,9 @@ fn judge(k: u32, cluster: &Cluster, event: &Event) -> Verdict
     ensures { result ≡ judge_of k cluster.now.requests event.now }
 {
     match event {
-        Event::Request { time, bytes, .. } => judge_request(
-            k,
-            cluster.asked(),
-            cluster.last_time(),
-            *time,
-            bytes.as_slice(),
-        ),
+        Event::Request { time, .. } => {
+            judge_request(k, cluster.asked(), cluster.last_time(), *time)
+        }
         Event::RunAll => Verdict::Goes,
         Event::End => Verdict::Ends,
         Event::Unbuilt => Verdict::Waits,

@@ -82,6 +82,28 @@ impl<S: FileServer> FileServer for Reluctant<S> {
         self.inner.symlink(dir, name, text)
     }
 
+    fn link(&mut self, node: &Handle, dir: &Handle, name: &[u8]) -> Result<(), SrvErr> {
+        self.inner.link(node, dir, name)
+    }
+
+    fn remove(&mut self, dir: &Handle, name: &[u8]) -> Result<(), SrvErr> {
+        self.inner.remove(dir, name)
+    }
+
+    fn rmdir(&mut self, dir: &Handle, name: &[u8]) -> Result<(), SrvErr> {
+        self.inner.rmdir(dir, name)
+    }
+
+    fn rename(
+        &mut self,
+        from: &Handle,
+        name: &[u8],
+        to: &Handle,
+        to_name: &[u8],
+    ) -> Result<(), SrvErr> {
+        self.inner.rename(from, name, to, to_name)
+    }
+
     fn wipe(&mut self) -> Result<(), SrvErr> {
         self.inner.wipe()
     }

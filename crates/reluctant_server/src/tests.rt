@@ -3,6 +3,8 @@
 
 mod dirs;
 mod files;
+mod moves;
+mod names;
 mod service;
 mod words;
 
@@ -35,6 +37,21 @@ fn files_and_links(alloc: Global, server: Srv) -> Result<(), Fail> {
     files::set(alloc, &mut service)
 }
 
+/// The tables of names that are given, taken and moved, over two servers.
+fn names_and_moves(alloc: Global, first: Srv, second: Srv) -> Result<(), Fail> {
+    let mut service = Service::new(alloc, first)?;
+    names::linked(alloc, &mut service)?;
+    names::not_linked(alloc, &mut service)?;
+    names::removed(alloc, &mut service)?;
+    names::dirs_removed(alloc, &mut service)?;
+    let mut service = Service::new(alloc, second)?;
+    moves::refused(alloc, &mut service)?;
+    moves::tested(alloc, &mut service)?;
+    moves::files_moved(alloc, &mut service)?;
+    moves::dirs_moved(alloc, &mut service)?;
+    moves::written_below(alloc, &mut service)
+}
+
 /// A path server.
 fn path_server(alloc: Global) -> Result<PathServer, Fail> {
     match PathServer::new(alloc, LIMITS) {
@@ -47,12 +64,20 @@ fn path_server(alloc: Global) -> Result<PathServer, Fail> {
 fn over_a_path_server(rt: HostRuntime) -> Result<(), Fail> {
     let alloc = rt.alloc();
     directories(alloc, Box::new(alloc, path_server(alloc)?)?)?;
-    files_and_links(alloc, Box::new(alloc, path_server(alloc)?)?)
+    files_and_links(alloc, Box::new(alloc, path_server(alloc)?)?)?;
+    let second = Box::new(alloc, path_server(alloc)?)?;
+    names_and_moves(alloc, Box::new(alloc, path_server(alloc)?)?, second)
 }
 
 #[test]
 fn over_a_reluctant_server(rt: HostRuntime) -> Result<(), Fail> {
     let alloc = rt.alloc();
     directories(alloc, Box::new(alloc, Reluctant::new(path_server(alloc)?))?)?;
-    files_and_links(alloc, Box::new(alloc, Reluctant::new(path_server(alloc)?))?)
+    files_and_links(alloc, Box::new(alloc, Reluctant::new(path_server(alloc)?))?)?;
+    let second = Box::new(alloc, Reluctant::new(path_server(alloc)?))?;
+    names_and_moves(
+        alloc,
+        Box::new(alloc, Reluctant::new(path_server(alloc)?))?,
+        second,
+    )
 }

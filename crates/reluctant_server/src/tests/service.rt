@@ -6,7 +6,7 @@ ghost use Rattle.reluctant_server.specs.Ready.{IsReady};
 
 use abs_plain::{AbsArray, is_valid, plain_step};
 use conf_map::{TouchList, fresh};
-use dispatch::{answer, is_built};
+use dispatch::answer;
 use nfs2_args::read_args;
 use nfs2_results::read_result;
 use nfs2_types::{Blob16, Cred, Limits, NfsResult, Time, Word};
@@ -61,9 +61,6 @@ fn served(
     requires { IsReady limits.now (state server.old) table.old }
     ensures { OnOk result (IsReady limits.now (state server.new) table.new) }
 {
-    if !is_built(call) {
-        return Err("not built".into());
-    }
     let time = Time { secs, micros: 0 };
     let mut told = TouchList::new(alloc);
     match answer(alloc, server, table, limits, time, call, &mut told) {

@@ -28,3 +28,17 @@ pub const DOTS: [u32; 2] = [2, 0x2e2e0000];
 pub const SLASH: [u32; 2] = [3, 0x612f6200];
 
 pub const EMPTY: [u32; 1] = [0];
+
+pub const D: [u32; 2] = [1, 0x64000000];
+
+pub const E: [u32; 2] = [1, 0x65000000];
+
+pub const F: [u32; 2] = [1, 0x66000000];
+
+pub const G: [u32; 2] = [1, 0x67000000];
+
+pub const H: [u32; 2] = [1, 0x68000000];
+
+pub const Q: [u32; 2] = [1, 0x71000000];
+
+pub const X: [u32; 2] = [1, 0x78000000];
