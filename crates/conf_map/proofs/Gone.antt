@@ -1,10 +1,10 @@
 -- A name is taken out, and the node that it led to goes with it.
-use Rattle.std.proofs.Common.{◌≡◌, ◌≢◌, ◌⊎◌, inl, inr, ◌↔◌, ℕ, true, false, List, [], Option, Some, None, slice_get, refl, sym, ap, ◌∙◌, subst}
+use Rattle.std.proofs.Common.{◌≡◌, ◌≢◌, ◌⊎◌, inl, inr, ◌↔◌, ℕ, true, false, List, Option, Some, None, slice_get, refl, sym, ap, ◌∙◌, subst}
 use Rattle.std.specs.Option.{option_and_then, option_map}
 use Rattle.std.specs.Ordering.{nat_cmp}
 use Rattle.std.specs.Cmp.Lexicographic.{slice_cmp}
 use Rattle.std.specs.BTreeMap as ordered
-use Rattle.server_trait.specs.Tree.{Tree, Node, Names, node_at, names_at, names_in}
+use Rattle.server_trait.specs.Tree.{Tree, Node, node_at, names_at, names_in}
 use Rattle.server_trait.proofs.TreeLaws.{some_none, some_same, one_or_not, bytes_or_not}
 use Rattle.server_trait.specs.declared.bench.ConfEntry.{ConfEntry}
 use Rattle.server_trait.specs.declared.bench.ConfTable.{ConfTable}
@@ -15,10 +15,10 @@ use Rattle.abs_model.specs.Objects.{is_dir, names_of, row_of}
 use Rattle.abs_model.specs.Array.{entry_at}
 use Rattle.conf_map.specs.Stands.{handle_at, Placed, IsObject, IsParent, LeadTo, RowIs, Stands}
 use Rattle.conf_map.specs.Moves.{DropsNode}
-use Rattle.conf_map.proofs.Frames.{same_entry, entry_at-some, handle_of_row, same_handle, row_frame, number_at, map_some, handle_node}
+use Rattle.conf_map.proofs.Frames.{same_entry, entry_at-some, handle_of_row, same_handle, row_frame, number_at, map_some}
 use Rattle.conf_map.proofs.Kept.{one_row}
 use Rattle.conf_map.proofs.Made.{no_lead}
-use Rattle.conf_map.proofs.Named.{dir_handle, dir_handle', dir_number, names_before, names_after, dir_row, lead_on}
+use Rattle.conf_map.proofs.SetNames.{dir_handle, dir_handle', dir_number, names_before, names_after, dir_row, lead_on}
 
 not_dir_null : (e : Entry) → e.object ≡ Null → is_dir e ≡ true → ⊥
 not_dir_null e is d = let bad : false ≡ true = sym (ap (λ o. is_dir (record { generation = e.generation; object = o })) is) ∙ d in cc

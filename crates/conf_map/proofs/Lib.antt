@@ -14,7 +14,7 @@ pub mod InStep
 pub mod Kept
 pub mod LiveRows
 pub mod Made
-pub mod Named
+pub mod NameTests
 pub mod ObjectChanges
 pub mod ObjectFacts
 pub mod OneArray
@@ -23,6 +23,7 @@ pub mod Resized
 pub mod RisingRows
 pub mod RowFacts
 pub mod Seen
+pub mod SetNames
 pub mod Shows
 pub mod Sizes
 pub mod Targets

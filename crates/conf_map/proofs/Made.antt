@@ -18,7 +18,7 @@ use Rattle.conf_map.specs.Stands.{handle_at, Placed, IsObject, IsParent, LeadTo,
 use Rattle.conf_map.specs.Moves.{MakesNode}
 use Rattle.conf_map.proofs.Frames.{same_entry, entry_at-some, handle_of_row, same_handle, row_frame, number_at, map_some, handle_node}
 use Rattle.conf_map.proofs.Kept.{one_row}
-use Rattle.conf_map.proofs.Named.{dir_handle, dir_handle', dir_number, names_before, names_after, dir_row, lead_on}
+use Rattle.conf_map.proofs.SetNames.{dir_handle, dir_handle', dir_number, names_before, names_after, dir_row, lead_on}
 
 pub no_names : (e : Entry) → e.object ≡ Null → names_of e ≡ []
 no_names e is = ap (λ o. names_of (record { generation = e.generation; object = o })) is

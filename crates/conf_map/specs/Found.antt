@@ -1,15 +1,16 @@
 -- What a procedure finds on its way, said of the array (RFC 1094, 2.2).
-use Rattle.std.specs.Prelude.{◌≡◌, ℕ, ◌*◌, if◌then◌else◌, length, List, Bool, true, false, Option, Some, None, Result, Ok, Err}
+use Rattle.std.specs.Prelude.{◌≡◌, ℕ, ◌*◌, if◌then◌else◌, length, List, ◌∷◌, [], ◌++◌, Bool, true, false, Option, Some, None, Result, Ok, Err}
 use Rattle.nfs2_types.specs.declared.fattr.Kind.{Kind}
 use Rattle.nfs2_types.specs.declared.fattr.Kind.TheVariants.{File, Dir, Link}
 use Rattle.nfs2_types.specs.declared.Stat.{Stat}
-use Rattle.nfs2_types.specs.Names.{is_bad}
+use Rattle.nfs2_types.specs.Names.{is_bad, is_dot, is_name}
 use Rattle.server_trait.specs.declared.server.NodeAttr.{NodeAttr}
 use Rattle.server_trait.specs.declared.bench.ConfEntry.{ConfEntry}
 use Rattle.abs_model.specs.declared.entry.Entry.{Entry}
 use Rattle.abs_model.specs.Objects.{is_file, is_dir, is_link, attr_of, bytes_of}
 use Rattle.abs_model.specs.Array.{entry_at, live, target, has_name}
-use Rattle.abs_model.specs.Machine.{first_of, in_dir}
+use Rattle.abs_model.specs.Machine.{Refusal, ◌answers◌, first_of, in_dir}
+use Rattle.conf_map.specs.declared.name.Named.{Named}
 use Rattle.conf_map.specs.declared.table.Located.{Located}
 use Rattle.conf_map.specs.Tables.{IsLive}
 
@@ -66,3 +67,19 @@ pub record IsLed (A : List Entry) (rows : List ConfEntry) (d : ℕ) (name : List
 abbrev pub NameFound : List Entry → List ConfEntry → ℕ → List ℕ → Option Located → Type 0
 NameFound A rows d name None = has_name A d name ≡ false
 NameFound A rows d name (Some at) = IsLed A rows d name at
+
+-- the tests of a directory and of a name in it, where a dot has a status of its own
+abbrev pub name_tests : List Entry → List ℕ → List ℕ → Stat → List Refusal
+name_tests A dir name dot = in_dir A dir name ++ (is_dot name answers dot) ∷ []
+
+-- the directory of a call, and where its name leads
+pub record IsNamed (A : List Entry) (rows : List ConfEntry) (dir name : List ℕ) (n : Named) : Type 0 where
+  pub in_dir : IsDirCall A rows dir name n.dir
+  pub no_dot : is_dot name ≡ false
+  pub good : is_name name ≡ true
+  pub found : NameFound A rows n.dir.index name n.at
+
+-- where a name leads, or the status of the first refusal
+abbrev pub NamedFound : List Entry → List ConfEntry → List ℕ → List ℕ → Stat → Result Named Stat → Type 0
+NamedFound A rows dir name dot (Ok n) = IsNamed A rows dir name n
+NamedFound A rows dir name dot (Err s) = first_of (name_tests A dir name dot) ≡ Some s

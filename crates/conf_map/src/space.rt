@@ -13,6 +13,9 @@ use crate::ask::attr_of;
 use nfs2_types::{Kind, Limits};
 use server_trait::{ConfTable, NodeAttr, Srv, WrapErr};
 
+/// The most bytes of a file.
+pub const FILE_LIMIT: u32 = 1_048_576;
+
 /// The bytes that a node uses: 512 for each name of a directory, else those of a file or of a link's text.
 fn used_of(attr: &NodeAttr) -> u64
     ensures used { result ≡ bytes_used attr.now }

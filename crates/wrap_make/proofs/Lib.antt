@@ -2,7 +2,6 @@ mod Additions
 pub mod ByCall
 pub mod ByKind
 mod Makings
-mod NameTests
 mod NewNodes
 mod OldFiles
 mod Refusals

@@ -15,14 +15,14 @@ use Rattle.abs_model.specs.Machine.{Refusal, ◌answers◌, no_new, no_room}
 use Rattle.abs_model.proofs.Named.{at-live}
 use Rattle.conf_map.specs.Stands.{StandsValid, StandValid, AreWithin}
 use Rattle.conf_map.specs.Tables.{is_free_row}
-use Rattle.conf_map.specs.Found.{NameFound}
+use Rattle.conf_map.specs.Found.{NameFound, IsNamed, NamedFound}
 use Rattle.conf_map.specs.declared.table.Located.{Located}
+use Rattle.conf_map.specs.declared.name.Named.{Named}
 use Rattle.conf_map.proofs.Shows.{stand_valid}
 use Rattle.conf_map.proofs.Seen.{free_agrees}
-use Rattle.wrap_make.specs.declared.place.Named.{Named}
+use Rattle.conf_map.proofs.NameTests.{name_first, rest_first}
 use Rattle.wrap_make.specs.declared.place.Place.{Place}
-use Rattle.wrap_make.specs.Places.{refused, IsNamed, NamedFound, IsIndex, IndexFound, IsPlace}
-use Rattle.wrap_make.proofs.NameTests.{name_first, rest_first}
+use Rattle.wrap_make.specs.Places.{refused, IsIndex, IndexFound, IsPlace}
 
 -- WHAT STANDS
 
@@ -77,32 +77,32 @@ dir_at A rows dir name n c = at-live A dir n.dir.index c.in_dir.is_index
 
 module _ (limits : Limits) (within : AreWithin limits) (bytes : ℕ) (s : Option Tree) (table : ConfTable)
     (dir name : List ℕ) (r : Result Named Stat)
-    (found : (A : List Entry) → StandValid s table A → NamedFound A table.rows.items dir name r) where
+    (found : (A : List Entry) → StandValid s table A → NamedFound A table.rows.items dir name EXIST r) where
   abbrev later : Bool → Bool → Option Stat
   later has full = if has then Some EXIST else (if full then Some NOSPC else None)
 
   abbrev rest : List Entry → List Refusal
   rest A = (has_name A (at A dir) name answers EXIST) ∷ (no_new A limits bytes answers NOSPC) ∷ []
 
-  named_found : (A : List Entry) → StandsValid limits s table A → NamedFound A table.rows.items dir name r
+  named_found : (A : List Entry) → StandsValid limits s table A → NamedFound A table.rows.items dir name EXIST r
   named_found A k = found A (stand_valid limits s table A within k)
 
   -- a refusal of the name
   pub name_refused : (A : List Entry) → StandsValid limits s table A → (stat : Stat) → r ≡ Err stat →
       refused A limits dir name bytes ≡ Some stat
-  name_refused A k stat is = name_first A dir name (rest A) stat
-      (subst (NamedFound A table.rows.items dir name) is (named_found A k))
+  name_refused A k stat is = name_first A dir name EXIST (rest A) stat
+      (subst (NamedFound A table.rows.items dir name EXIST) is (named_found A k))
 
   module _ (n : Named) (is : r ≡ Ok n) where
     is_named : (A : List Entry) → StandsValid limits s table A → IsNamed A table.rows.items dir name n
-    is_named A k = subst (NamedFound A table.rows.items dir name) is (named_found A k)
+    is_named A k = subst (NamedFound A table.rows.items dir name EXIST) is (named_found A k)
 
     module _ (A : List Entry) (k : StandsValid limits s table A) where
       there : has_name A n.dir.index name ≡ is_some n.at
       there = name_there A table.rows.items n.dir.index name n.at (is_named A k).found
 
       after_name : refused A limits dir name bytes ≡ later (is_some n.at) (no_new A limits bytes)
-      after_name = rest_first A dir name (rest A) table.rows.items n (is_named A k)
+      after_name = rest_first A dir name EXIST (rest A) table.rows.items n (is_named A k)
           ∙ ap (λ d. later (has_name A d name) (no_new A limits bytes))
           (dir_at A table.rows.items dir name n (is_named A k))
           ∙ ap (λ b. later b (no_new A limits bytes)) there
@@ -141,7 +141,7 @@ not_refused A limits rows dir name bytes p c =
     let n : Named = record { dir = p.dir; at = None } in
     let named : IsNamed A rows dir name n =
     record { in_dir = c.in_dir; no_dot = c.no_dot; good = c.good; found = c.lacks } in
-    rest_first A dir name ((has_name A (at A dir) name answers EXIST) ∷ (no_new A limits bytes answers NOSPC) ∷ [])
+    rest_first A dir name EXIST ((has_name A (at A dir) name answers EXIST) ∷ (no_new A limits bytes answers NOSPC) ∷ [])
     rows n named
     ∙ ap (λ d. if has_name A d name then Some EXIST else (if no_new A limits bytes then Some NOSPC else None))
     (dir_at A rows dir name n named)

@@ -15,14 +15,14 @@ use Rattle.abs_model.specs.Objects.{is_file, bytes_of}
 use Rattle.abs_model.specs.Array.{entry_at, at, has_name, target}
 use Rattle.abs_model.specs.Machine.{Refusal, ◌answers◌, first_of, refusals, file_limit, no_new, no_room}
 use Rattle.conf_map.specs.Stands.{StandsValid, StandValid, AreWithin}
-use Rattle.conf_map.specs.Found.{NameFound, IsLed}
+use Rattle.conf_map.specs.Found.{NameFound, IsLed, IsNamed, NamedFound}
 use Rattle.conf_map.specs.Tables.{IsLive}
 use Rattle.conf_map.specs.declared.table.Located.{Located}
+use Rattle.conf_map.specs.declared.name.Named.{Named}
 use Rattle.conf_map.proofs.Shows.{stand_valid}
-use Rattle.wrap_make.specs.declared.place.Named.{Named}
-use Rattle.wrap_make.specs.Places.{IsNamed, NamedFound, IsIndex}
+use Rattle.conf_map.proofs.NameTests.{name_first, rest_first}
+use Rattle.wrap_make.specs.Places.{IsIndex}
 use Rattle.wrap_make.specs.Files.{old_refused, new_refused, FileIndexFound, CanHave, IsOldFile, IsNewFile}
-use Rattle.wrap_make.proofs.NameTests.{name_first, rest_first}
 use Rattle.wrap_make.proofs.Refusals.{stands_still, dir_at, index_new, low_is}
 
 -- TESTS THAT DO NOT HOLD
@@ -62,7 +62,7 @@ new_none A limits size i index small =
 
 module _ (limits : Limits) (within : AreWithin limits) (s : Option Tree) (table : ConfTable) (dir name : List ℕ)
     (sattr : Sattr) (r : Result Named Stat)
-    (found : (A : List Entry) → StandValid s table A → NamedFound A table.rows.items dir name r) where
+    (found : (A : List Entry) → StandValid s table A → NamedFound A table.rows.items dir name EXIST r) where
   abbrev size : ℕ
   size = unwrap_or sattr.size 0
 
@@ -78,12 +78,12 @@ module _ (limits : Limits) (within : AreWithin limits) (s : Option Tree) (table 
   pub create_refused : (A : List Entry) → StandsValid limits s table A → (stat : Stat) → r ≡ Err stat →
       first_of (refusals A limits (create dir name sattr)) ≡ Some stat
   create_refused A k stat is =
-      name_first A dir name (rest A (has_name A (at A dir) name) (target A (at A dir) name)) stat
-      (subst (NamedFound A table.rows.items dir name) is (found A (stand_valid limits s table A within k)))
+      name_first A dir name EXIST (rest A (has_name A (at A dir) name) (target A (at A dir) name)) stat
+      (subst (NamedFound A table.rows.items dir name EXIST) is (found A (stand_valid limits s table A within k)))
 
   module _ (n : Named) (is : r ≡ Ok n) where
     is_named : (A : List Entry) → StandsValid limits s table A → IsNamed A table.rows.items dir name n
-    is_named A k = subst (NamedFound A table.rows.items dir name) is (found A (stand_valid limits s table A within k))
+    is_named A k = subst (NamedFound A table.rows.items dir name EXIST) is (found A (stand_valid limits s table A within k))
 
     dir_is : (A : List Entry) → StandsValid limits s table A → at A dir ≡ n.dir.index
     dir_is A k = dir_at A table.rows.items dir name n (is_named A k)
@@ -91,7 +91,7 @@ module _ (limits : Limits) (within : AreWithin limits) (s : Option Tree) (table 
     after_name : (A : List Entry) → StandsValid limits s table A →
         first_of (refusals A limits (create dir name sattr))
         ≡ first_of (rest A (has_name A n.dir.index name) (target A n.dir.index name))
-    after_name A k = rest_first A dir name (rest A (has_name A (at A dir) name) (target A (at A dir) name))
+    after_name A k = rest_first A dir name EXIST (rest A (has_name A (at A dir) name) (target A (at A dir) name))
         table.rows.items n (is_named A k)
         ∙ ap (λ d. first_of (rest A (has_name A d name) (target A d name))) (dir_is A k)
 

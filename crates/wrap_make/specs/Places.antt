@@ -12,10 +12,9 @@ use Rattle.abs_model.specs.Objects.{is_dir}
 use Rattle.abs_model.specs.Array.{entry_at, at, free, has_name, used}
 use Rattle.abs_model.specs.Machine.{◌answers◌, first_of, in_dir, no_new}
 use Rattle.abs_model.specs.Valid.{Valid}
-use Rattle.conf_map.specs.Found.{IsDirCall, NameFound}
+use Rattle.conf_map.specs.Found.{IsDirCall}
 use Rattle.conf_map.specs.Stands.{Stands, AreWithin, HasRoom}
 use Rattle.conf_map.specs.Tables.{IsLive}
-use Rattle.wrap_make.specs.declared.place.Named.{Named}
 use Rattle.wrap_make.specs.declared.place.Place.{Place}
 use Rattle.wrap_make.specs.Objects.{New, byte_count, IsSmall}
 
@@ -25,22 +24,6 @@ refused A limits dir name bytes = first_of (in_dir A dir name ++
     (is_dot name answers EXIST) ∷
     (has_name A (at A dir) name answers EXIST) ∷
     (no_new A limits bytes answers NOSPC) ∷ [])
-
--- the first refusal that says nothing of what the name leads to
-abbrev pub refused_name : List Entry → List ℕ → List ℕ → Option Stat
-refused_name A dir name = first_of (in_dir A dir name ++ (is_dot name answers EXIST) ∷ [])
-
--- the directory of a call, and where its name leads
-pub record IsNamed (A : List Entry) (rows : List ConfEntry) (dir name : List ℕ) (n : Named) : Type 0 where
-  pub in_dir : IsDirCall A rows dir name n.dir
-  pub no_dot : is_dot name ≡ false
-  pub good : is_name name ≡ true
-  pub found : NameFound A rows n.dir.index name n.at
-
--- where a name leads that a new object may have, or the status of the first refusal
-abbrev pub NamedFound : List Entry → List ConfEntry → List ℕ → List ℕ → Result Named Stat → Type 0
-NamedFound A rows dir name (Ok n) = IsNamed A rows dir name n
-NamedFound A rows dir name (Err s) = refused_name A dir name ≡ Some s
 
 -- the lowest free index, with space for one name and so many bytes more
 pub record IsIndex (A : List Entry) (limits : Limits) (bytes index : ℕ) : Type 0 where

@@ -3,52 +3,18 @@
 ghost use Rattle.std.specs.Prelude.{◌≡◌, ◌≤◌, ℕ, List, Result, Ok, Err, true, nat_le, length, IfOk, OnOk};
 ghost use Rattle.abs_model.specs.declared.entry.Entry.{Entry};
 ghost use Rattle.conf_map.specs.Notice.{Watched};
-ghost use Rattle.conf_map.specs.Stands.{StandValid, StandsValid, AreWithin};
-ghost use Rattle.wrap_make.specs.Places.{NamedFound, IndexFound, PlaceFound};
+ghost use Rattle.conf_map.specs.Stands.{StandsValid, AreWithin};
+ghost use Rattle.wrap_make.specs.Places.{IndexFound, PlaceFound};
 
-use conf_map::{Located, follow, in_dir, lowest_null, no_room};
-use nfs2_types::{Handle, Limits, Stat, is_dot, stat};
+use conf_map::{Located, find_name, lowest_null, no_room};
+use nfs2_types::{Handle, Limits, Stat, stat};
 use server_trait::{ConfTable, FileServer, Srv, WrapErr};
-
-/// A directory, and the object to which a name leads in it, if it has the name.
-#[derive(Clone, Copy, Debug)]
-pub struct Named {
-    pub dir: Located,
-    pub at: Option<Located>,
-}
 
 /// A directory that gets a name, and the index of the object to which it will lead.
 #[derive(Clone, Copy, Debug)]
 pub struct Place {
     pub dir: Located,
     pub index: u32,
-}
-
-/// A name that a call may give to a new object, or the status of the first refusal: STALE, NOTDIR, ACCES, or EXIST for
-/// a dot.
-pub fn find_name(
-    server: &mut Srv,
-    table: &ConfTable,
-    dir: &Handle,
-    name: &[u8],
-) -> Result<Result<Named, Stat>, WrapErr>
-    requires stands { (A : List Entry) × StandValid (state server.old).tree table.now A }
-    requires short { nat_le (length name.now) 255 ≡ true }
-    ensures found { IfOk result (λ r. (A : List Entry) →
-        StandValid (state server.old).tree table.now A →
-        NamedFound A table.now.rows.items dir.now name.now r) }
-    ensures same { OnOk result ((state server.new).tree ≡ (state server.old).tree) }
-    ensures watched { Watched (state server.old) (state server.new) result }
-{
-    let d = match in_dir(server, table, dir, name)? {
-        Ok(d) => d,
-        Err(refused) => return Ok(Err(refused)),
-    };
-    if is_dot(name) {
-        return Ok(Err(stat::EXIST));
-    }
-    let at = follow(server, table, &d, name)?;
-    Ok(Ok(Named { dir: d, at }))
 }
 
 /// The index of a new object of so many bytes, or `None` where no index is free or the bytes would pass their limit.
@@ -97,7 +63,7 @@ pub fn place_of(
     ensures same { OnOk result ((state server.new).tree ≡ (state server.old).tree) }
     ensures watched { Watched (state server.old) (state server.new) result }
 {
-    let named = match find_name(server, table, dir, name)? {
+    let named = match find_name(server, table, dir, name, stat::EXIST)? {
         Ok(named) => named,
         Err(refused) => return Ok(Err(refused)),
     };

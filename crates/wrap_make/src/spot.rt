@@ -8,13 +8,10 @@ ghost use Rattle.conf_map.specs.Stands.{StandsValid, AreWithin};
 ghost use Rattle.conf_map.specs.Tables.{IsLive};
 ghost use Rattle.wrap_make.specs.Files.{old_refused, FileIndexFound, SpotFound};
 
-use crate::place::{Place, find_name, new_index};
-use conf_map::{Located, no_room, object_at};
+use crate::place::{Place, new_index};
+use conf_map::{FILE_LIMIT, Located, find_name, no_room, object_at};
 use nfs2_types::{Handle, Kind, Limits, Sattr, Stat, stat};
 use server_trait::{ConfTable, FileServer, NodeAttr, Srv, WrapErr};
-
-/// The most bytes of a file.
-const FILE_LIMIT: u32 = 1048576;
 
 /// The place of a new file, or a file that is there.
 #[derive(Clone, Copy, Debug)]
@@ -112,7 +109,7 @@ pub fn find_spot(
     ensures same { OnOk result ((state server.new).tree ≡ (state server.old).tree) }
     ensures watched { Watched (state server.old) (state server.new) result }
 {
-    let named = match find_name(server, table, dir, name)? {
+    let named = match find_name(server, table, dir, name, stat::EXIST)? {
         Ok(named) => named,
         Err(refused) => return Ok(Err(refused)),
     };

@@ -21,7 +21,7 @@ use Rattle.conf_map.specs.Moves.{DropsName}
 use Rattle.conf_map.specs.Stands.{handle_at, Stands}
 use Rattle.conf_map.specs.Tables.{touched}
 use Rattle.conf_map.specs.declared.table.Located.{Located}
-use Rattle.conf_map.proofs.Named.{stands_dropped}
+use Rattle.conf_map.proofs.SetNames.{stands_dropped}
 use Rattle.wrap_names.specs.Drops.{drops, CanDrop}
 use Rattle.wrap_names.specs.NameRows.{changed_row, ChangesRow}
 use Rattle.wrap_names.proofs.DropFacts.{row, to_index, apart, at_dir, at_old, not_root, target_is, links_are}

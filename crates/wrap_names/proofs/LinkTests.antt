@@ -16,16 +16,15 @@ use Rattle.abs_model.specs.Array.{entry_at, live, at, has_name, used}
 use Rattle.abs_model.specs.Machine.{Refusal, ◌answers◌, first_of, is_stale, no_room, refusals}
 use Rattle.abs_model.proofs.Named.{at-live}
 use Rattle.conf_map.specs.Stands.{StandsValid, StandValid, AreWithin}
-use Rattle.conf_map.specs.Found.{NameFound}
+use Rattle.conf_map.specs.Found.{NameFound, IsNamed, NamedFound}
 use Rattle.conf_map.specs.Tables.{located}
 use Rattle.conf_map.specs.declared.table.Located.{Located}
+use Rattle.conf_map.specs.declared.name.Named.{Named}
 use Rattle.conf_map.proofs.Answered.{or_first, first_of-append}
 use Rattle.conf_map.proofs.Seen.{live_agrees, located_live}
 use Rattle.conf_map.proofs.Shows.{stand_valid}
-use Rattle.wrap_names.specs.declared.find.Named.{Named}
-use Rattle.wrap_names.specs.Present.{IsNamed, NamedFound}
+use Rattle.conf_map.proofs.NameTests.{name_first, rest_first}
 use Rattle.wrap_names.specs.Adds.{object_tests, IsAlone, AloneFound, new_tests, IsNew, NewFound, IsLink}
-use Rattle.wrap_names.proofs.NameTests.{name_first, rest_first}
 use Rattle.wrap_names.proofs.OldTests.{still_valid}
 
 -- THE TWO HANDLES
@@ -90,22 +89,22 @@ abbrev old_name : List Entry → List ℕ → List ℕ → List Refusal
 old_name A dir name = (has_name A (at A dir) name answers EXIST) ∷ []
 
 module _ (s : Option Tree) (table : ConfTable) (dir name : List ℕ) (r : Result Named Stat)
-    (found : (A : List Entry) → StandValid s table A → NamedFound A table.rows.items dir name r) where
+    (found : (A : List Entry) → StandValid s table A → NamedFound A table.rows.items dir name PERM r) where
   -- a refusal of the name
   pub new_refused : (A : List Entry) → StandValid s table A → (stat : Stat) → r ≡ Err stat →
       first_of (new_tests A dir name) ≡ Some stat
-  new_refused A k stat is = name_first A dir name (old_name A dir name) stat
-      (subst (NamedFound A table.rows.items dir name) is (found A k))
+  new_refused A k stat is = name_first A dir name PERM (old_name A dir name) stat
+      (subst (NamedFound A table.rows.items dir name PERM) is (found A k))
 
   module _ (n : Named) (is : r ≡ Ok n) (A : List Entry) (k : StandValid s table A) where
     named : IsNamed A table.rows.items dir name n
-    named = subst (NamedFound A table.rows.items dir name) is (found A k)
+    named = subst (NamedFound A table.rows.items dir name PERM) is (found A k)
 
     -- a name that is there
     pub name_taken : (o : Located) → n.at ≡ Some o → first_of (new_tests A dir name) ≡ Some EXIST
     name_taken o some =
         let led = subst (NameFound A table.rows.items n.dir.index name) some named.found in
-        rest_first A dir name (old_name A dir name) table.rows.items n named
+        rest_first A dir name PERM (old_name A dir name) table.rows.items n named
         ∙ ap (λ d. if_there (has_name A d name)) (at-live A dir n.dir.index named.in_dir.is_index)
         ∙ ap if_there led.has
 
@@ -185,7 +184,7 @@ module _ (limits : Limits) (within : AreWithin limits) (s : Option Tree) (table 
               good = name_is.good;
               found = name_is.lacks;
             } in
-            rest_first A dir name (old_name A dir name) table.rows.items n c
+            rest_first A dir name PERM (old_name A dir name) table.rows.items n c
             ∙ ap (λ d. if_there (has_name A d name)) (at-live A dir d.index name_is.in_dir.is_index)
             ∙ ap if_there name_is.lacks
 

@@ -20,7 +20,7 @@ use Rattle.conf_map.specs.Stands.{StandValid, HasRoom, Stands}
 use Rattle.conf_map.specs.Tables.{touched}
 use Rattle.conf_map.specs.declared.table.Located.{Located}
 use Rattle.conf_map.proofs.Agrees.{used_agrees, nodes_few}
-use Rattle.conf_map.proofs.Named.{stands_added}
+use Rattle.conf_map.proofs.SetNames.{stands_added}
 use Rattle.conf_map.proofs.ObjectChanges.{at_index}
 use Rattle.conf_map.proofs.PlacedRows.{row_of-placed_same, row_of-placed_other}
 use Rattle.conf_map.proofs.Targets.{lacks_agrees, other_not_dir}

@@ -29,7 +29,7 @@ use Rattle.conf_map.specs.declared.table.Located.{Located}
 use Rattle.conf_map.proofs.Frames.{handle_of_row, same_handle, entry_at-some}
 use Rattle.conf_map.proofs.InStep.{slice_get-set_same, slice_get-set_other}
 use Rattle.conf_map.proofs.Kept.{one_row}
-use Rattle.conf_map.proofs.Named.{stands_added, stands_dropped}
+use Rattle.conf_map.proofs.SetNames.{stands_added, stands_dropped}
 use Rattle.conf_map.proofs.Targets.{target_some, target_none}
 use Rattle.wrap_names.specs.Renames.{CanMove, IsPutUnder, name_moves}
 use Rattle.wrap_names.specs.RowParents.{under}

@@ -2,7 +2,7 @@
 use Rattle.std.proofs.Common.{◌≡◌, ℕ, Bool, true, false, List, [], ◌∷◌, ◌++◌, Option, Some, None, Result, Ok, Err, sym, ap, ◌∙◌, subst}
 use Rattle.std.specs.Prelude.{not, if◌then◌else◌}
 use Rattle.nfs2_types.specs.declared.Stat.{Stat}
-use Rattle.nfs2_types.specs.declared.stat.TheConstants.{NOENT, ISDIR}
+use Rattle.nfs2_types.specs.declared.stat.TheConstants.{PERM, NOENT, ISDIR}
 use Rattle.server_trait.specs.Tree.{Tree}
 use Rattle.server_trait.specs.declared.bench.ConfEntry.{ConfEntry}
 use Rattle.server_trait.specs.declared.bench.ConfTable.{ConfTable}
@@ -12,13 +12,13 @@ use Rattle.abs_model.specs.Array.{entry_at, at, has_name, target}
 use Rattle.abs_model.specs.Machine.{Refusal, ◌answers◌, first_of}
 use Rattle.abs_model.proofs.Named.{at-live}
 use Rattle.conf_map.specs.Stands.{StandValid}
-use Rattle.conf_map.specs.Found.{NameFound}
+use Rattle.conf_map.specs.Found.{NameFound, IsNamed, NamedFound}
 use Rattle.conf_map.specs.declared.table.Located.{Located}
+use Rattle.conf_map.specs.declared.name.Named.{Named}
 use Rattle.conf_map.proofs.Answered.{or_first, first_of-append}
-use Rattle.wrap_names.specs.declared.find.Named.{Named}
+use Rattle.conf_map.proofs.NameTests.{name_first, rest_first}
 use Rattle.wrap_names.specs.declared.find.Found.{Found}
-use Rattle.wrap_names.specs.Present.{IsNamed, NamedFound, old_tests, IsOld, OldFound, file_tests, IsFileName}
-use Rattle.wrap_names.proofs.NameTests.{name_first, rest_first}
+use Rattle.wrap_names.specs.Present.{old_tests, IsOld, OldFound, file_tests, IsFileName}
 
 -- THE NAME IS THERE
 
@@ -29,16 +29,16 @@ abbrev if_none : Bool → Option Stat
 if_none b = if not b then Some NOENT else None
 
 module _ (s : Option Tree) (table : ConfTable) (dir name : List ℕ) (r : Result Named Stat)
-    (found : (A : List Entry) → StandValid s table A → NamedFound A table.rows.items dir name r) where
+    (found : (A : List Entry) → StandValid s table A → NamedFound A table.rows.items dir name PERM r) where
   -- a refusal of the name
   pub name_refused : (A : List Entry) → StandValid s table A → (stat : Stat) → r ≡ Err stat →
       first_of (old_tests A dir name) ≡ Some stat
-  name_refused A k stat is = name_first A dir name (no_name A dir name) stat
-      (subst (NamedFound A table.rows.items dir name) is (found A k))
+  name_refused A k stat is = name_first A dir name PERM (no_name A dir name) stat
+      (subst (NamedFound A table.rows.items dir name PERM) is (found A k))
 
   module _ (n : Named) (is : r ≡ Ok n) where
     is_named : (A : List Entry) → StandValid s table A → IsNamed A table.rows.items dir name n
-    is_named A k = subst (NamedFound A table.rows.items dir name) is (found A k)
+    is_named A k = subst (NamedFound A table.rows.items dir name PERM) is (found A k)
 
     -- a name that is not there
     pub no_entry : (A : List Entry) → StandValid s table A → n.at ≡ None →
@@ -47,7 +47,7 @@ module _ (s : Option Tree) (table : ConfTable) (dir name : List ℕ) (r : Result
         let c = is_named A k in
         let lacks : has_name A n.dir.index name ≡ false =
         subst (NameFound A table.rows.items n.dir.index name) none c.found in
-        rest_first A dir name (no_name A dir name) table.rows.items n c
+        rest_first A dir name PERM (no_name A dir name) table.rows.items n c
         ∙ ap (λ d. if_none (has_name A d name)) (at-live A dir n.dir.index c.in_dir.is_index) ∙ ap if_none lacks
 
     -- and one that is
@@ -74,7 +74,7 @@ module _ (A : List Entry) (rows : List ConfEntry) (dir name : List ℕ) (f : Fou
   old_at = ap (λ d. target A d name) dir_at ∙ c.led.target
 
   none_refused : first_of (old_tests A dir name) ≡ None
-  none_refused = rest_first A dir name (no_name A dir name) rows (record { dir = f.dir; at = Some f.at })
+  none_refused = rest_first A dir name PERM (no_name A dir name) rows (record { dir = f.dir; at = Some f.at })
       (record { in_dir = c.in_dir; no_dot = c.no_dot; good = c.good; found = c.led })
       ∙ ap (λ d. if_none (has_name A d name)) dir_at ∙ ap if_none c.led.has
 

@@ -9,27 +9,8 @@ use Rattle.abs_model.specs.declared.entry.Entry.{Entry}
 use Rattle.abs_model.specs.Objects.{is_dir, names_of}
 use Rattle.abs_model.specs.Array.{entry_at, at, has_name, target}
 use Rattle.abs_model.specs.Machine.{Refusal, ◌answers◌, first_of, in_dir}
-use Rattle.conf_map.specs.Found.{is_dir_kind, IsDirCall, NameFound, IsLed}
-use Rattle.wrap_names.specs.declared.find.Named.{Named}
+use Rattle.conf_map.specs.Found.{is_dir_kind, IsDirCall, IsLed}
 use Rattle.wrap_names.specs.declared.find.Found.{Found}
-
--- NAMES
-
--- the tests of a directory and of a name that may be taken out or added
-abbrev pub name_tests : List Entry → List ℕ → List ℕ → List Refusal
-name_tests A dir name = in_dir A dir name ++ (is_dot name answers PERM) ∷ []
-
--- the directory of a call, and where its name leads
-pub record IsNamed (A : List Entry) (rows : List ConfEntry) (dir name : List ℕ) (n : Named) : Type 0 where
-  pub in_dir : IsDirCall A rows dir name n.dir
-  pub no_dot : is_dot name ≡ false
-  pub good : is_name name ≡ true
-  pub found : NameFound A rows n.dir.index name n.at
-
--- where a name leads, or the status of the first refusal
-abbrev pub NamedFound : List Entry → List ConfEntry → List ℕ → List ℕ → Result Named Stat → Type 0
-NamedFound A rows dir name (Ok n) = IsNamed A rows dir name n
-NamedFound A rows dir name (Err s) = first_of (name_tests A dir name) ≡ Some s
 
 -- NAMES THAT ARE THERE
 

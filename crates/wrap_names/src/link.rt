@@ -13,9 +13,9 @@ ghost use Rattle.conf_map.specs.Stands.{Stands, StandValid, StandsValid, AreWith
 ghost use Rattle.conf_map.specs.Notice.{Watched, NoticedAll};
 ghost use Rattle.wrap_names.specs.Adds.{AloneFound, NewFound, LinkFound, HasRoomToLink, names_both, CanLink};
 
-use crate::find::{Found, find_name};
+use crate::find::Found;
 use crate::rows::change_rows;
-use conf_map::{Located, Modify, broken, is_dir, locate, no_room, tell_both};
+use conf_map::{Located, Modify, broken, find_name, is_dir, locate, no_room, tell_both};
 use nfs2_types::{Cred, Handle, Limits, NfsResult, Stat, Time, stat};
 use server_trait::{ConfTable, FileServer, Srv, WrapErr};
 
@@ -64,7 +64,7 @@ fn find_new(
     ensures same { OnOk result ((state server.new).tree ≡ (state server.old).tree) }
     ensures watched { Watched (state server.old) (state server.new) result }
 {
-    let named = match find_name(server, table, dir, name)? {
+    let named = match find_name(server, table, dir, name, stat::PERM)? {
         Ok(named) => named,
         Err(refused) => return Ok(Err(refused)),
     };

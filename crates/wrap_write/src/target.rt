@@ -10,12 +10,9 @@ ghost use Rattle.conf_map.specs.Stands.{StandValid, StandsValid, AreWithin};
 ghost use Rattle.wrap_write.specs.Targets as targets;
 ghost use Rattle.wrap_write.specs.Targets.{write_tests, size_tests, TargetFound, CallFound};
 
-use conf_map::{Located, locate, no_room, object_at};
+use conf_map::{FILE_LIMIT, Located, locate, no_room, object_at};
 use nfs2_types::{Handle, Kind, Limits, Sattr, Stat, stat};
 use server_trait::{ConfTable, NodeAttr, Srv, WrapErr};
-
-/// The largest file, in bytes.
-const FILE_LIMIT: u64 = 1_048_576;
 
 /// A live object, and what its server tells of it.
 #[derive(Clone, Copy, Debug)]
@@ -72,7 +69,7 @@ fn no_space(
     ensures same { OnOk result ((state server.new).tree ≡ (state server.old).tree) }
     ensures watched { Watched (state server.old) (state server.new) result }
 {
-    if end > FILE_LIMIT {
+    if end > u64::from(FILE_LIMIT) {
         return Ok(Some(stat::FBIG));
     }
     if no_room(server, table, limits, goes, least.max(end as u32))? {
