@@ -94,7 +94,8 @@ refusals A limits (create dir name sattr) =
     (is_dot name answers EXIST) ∷
     (has_name A d name && not (is_file e) answers EXIST) ∷
     (nat_lt file_limit size answers FBIG) ∷
-    ((if has_name A d name then is_some sattr.size && no_room A limits (length (bytes_of e)) size else no_new A limits size) answers NOSPC) ∷ []
+    ((if has_name A d name then is_some sattr.size && no_room A limits (length (bytes_of e)) size
+    else no_new A limits size) answers NOSPC) ∷ []
 refusals A limits (remove dir name) = in_dir A dir name ++
     (is_dot name answers PERM) ∷
     (not (has_name A (at A dir) name) answers NOENT) ∷
@@ -163,7 +164,8 @@ row_to name i generation = record { name = name; index = i; generation = generat
 
 -- an entry that loses one name: null with the last, else changed at t
 abbrev pub unlinked : List Entry → ℕ → Time → Entry
-unlinked A i t = if nat_le (links A i) 1 then nulled (entry_at A i) else with_attr (changed_at t (attr_of (entry_at A i))) (entry_at A i)
+unlinked A i t = if nat_le (links A i) 1 then nulled (entry_at A i)
+    else with_attr (changed_at t (attr_of (entry_at A i))) (entry_at A i)
 
 -- a new object takes a null entry and raises its generation
 abbrev pub made : Object → Entry → Entry
@@ -194,11 +196,14 @@ changes A cred t (set_attr node sattr) =
     let i = at A node in
     let e = entry_at A i in
     let new = set_attr_of sattr t (attr_of e) in
-    to_be i (if is_some sattr.size then record { generation = e.generation; object = File new (resized (unwrap_or sattr.size 0) (bytes_of e)) } else with_attr new e) ∷ []
+    to_be i (if is_some sattr.size
+    then record { generation = e.generation; object = File new (resized (unwrap_or sattr.size 0) (bytes_of e)) }
+    else with_attr new e) ∷ []
 changes A cred t (lookup dir name) = []
 changes A cred t (read_link node) = []
 changes A cred t (read file offset count) = []
-changes A cred t (write file offset bytes) = to_be (at A file) (with_bytes (written offset bytes) t (entry_at A (at A file))) ∷ []
+changes A cred t (write file offset bytes) =
+    to_be (at A file) (with_bytes (written offset bytes) t (entry_at A (at A file))) ∷ []
 changes A cred t (create dir name sattr) =
     let d = at A dir in
     let i = target A d name in

@@ -52,7 +52,15 @@ attr_of e = elim e.object [ Null ↦ zero_attr | File attr bytes ↦ attr | Dir 
 
 -- the entry with other attributes
 abbrev pub with_attr : Attr → Entry → Entry
-with_attr new e = record { generation = e.generation; object = elim e.object [ Null ↦ Null | File attr bytes ↦ File new bytes | Dir attr names ↦ Dir new names | Link attr text ↦ Link new text ] }
+with_attr new e = record {
+  generation = e.generation;
+  object = elim e.object [
+    | Null ↦ Null
+    | File attr bytes ↦ File new bytes
+    | Dir attr names ↦ Dir new names
+    | Link attr text ↦ Link new text
+  ];
+}
 
 -- a null entry with the same generation
 abbrev pub nulled : Entry → Entry

@@ -1,6 +1,6 @@
 -- marks, and what is reached
 use Rattle.std.proofs.Common.{◌≡◌, ℕ, zero, suc, ◌+◌, ◌<◌, ◌≤◌, List, Bool, true, false, ◌||◌, length, get_or, set, replicate, refl, sym, ◌∙◌, subst, arith, inl, inr, get_or-set_same, get_or-set_other}
-use Rattle.std.proofs.lemmas.Bool.{cases_lt, cases_eq, false≢true, or_cases, or_left, or_right}
+use Rattle.std.proofs.lemmas.Bool.{cases_lt, cases_eq, false≢true, or_cases}
 use Rattle.std.proofs.lemmas.List.{get_or_past, get_or-replicate, length-replicate}
 use Rattle.abs_model.specs.declared.Entry.{Entry}
 use Rattle.abs_model.specs.Array.{entry_at, has_row_to}
@@ -28,13 +28,6 @@ visit_sound A here old new long visited marked sound i h =
       | inl was ↦ sound i was
       | inr way ↦ let root = sound here marked in walk_on A root.0 1 0 here i root.1 (i, way, refl)
     ]
-
-pub visit_grows : (A : List Entry) (here : ℕ) (old new : List Bool) → Visited A here old new → (i : ℕ) → is_marked old i ≡ true → is_marked new i ≡ true
-visit_grows A here old new visited i h = visited i (within_marks old i h) ∙ or_left (is_marked old i) (has_row_to i (entry_at A here)) h
-
-pub visit_spreads : (A : List Entry) (here : ℕ) (old new : List Bool) → Visited A here old new → (i : ℕ) → i < length old →
-    has_row_to i (entry_at A here) ≡ true → is_marked new i ≡ true
-visit_spreads A here old new visited i below h = visited i below ∙ or_right (is_marked old i) (has_row_to i (entry_at A here)) h
 
 -- the last step of a walk
 last_step : (A : List Entry) (k a i : ℕ) → Walk A (suc k) a i → (d : ℕ) × Walk A k a d × (has_row_to i (entry_at A d) ≡ true)

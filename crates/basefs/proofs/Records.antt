@@ -66,15 +66,6 @@ request_can k asked last time e = elim (chosen (falls time last || leb 1000000 a
   | inr p ↦ grind (arith, (or_false (falls time last) (leb 1000000 asked) p.0).1)
 ]
 
-never_last : (k asked : ℕ) (last : Option Time) (time : Time) → judge_request k asked last time ≡ verdict.Ends → ⊥
-never_last k asked last time e = elim (chosen (falls time last || leb 1000000 asked) verdict.Wrong (cond ((asked + 1) % k == 0) verdict.Waits verdict.Goes) verdict.Ends e) [
-  | inl p ↦ (let g : verdict.Wrong ≡ verdict.Ends = p.1 in cc)
-  | inr p ↦ elim (chosen ((asked + 1) % k == 0) verdict.Waits verdict.Goes verdict.Ends p.1) [
-    | inl q ↦ (let g : verdict.Waits ≡ verdict.Ends = q.1 in cc)
-    | inr q ↦ (let g : verdict.Goes ≡ verdict.Ends = q.1 in cc)
-  ]
-]
-
 -- the time of a request that was read is a time
 abbrev IsTimed : Event → Type 0
 IsTimed (records.Request client time bytes) = is_time time ≡ true
@@ -133,9 +124,3 @@ can_step k q taken (records.Request client time bytes) h j =
 can_step k q taken records.RunAll h j = tt
 can_step k q taken records.End h j = tt
 can_step k q taken records.Unbuilt h j = absurd (let g : verdict.Waits ≡ verdict.Goes = j in cc)
-
-pub last_can_step : (k : ℕ) (q : List Request) (e : Event) → judge k q e ≡ verdict.Ends → CanStep q e
-last_can_step k q (records.Request client time bytes) j = absurd (never_last k (length q) (last_time q) time j)
-last_can_step k q records.RunAll j = tt
-last_can_step k q records.End j = tt
-last_can_step k q records.Unbuilt j = absurd (let g : verdict.Waits ≡ verdict.Ends = j in cc)

@@ -31,8 +31,10 @@ pub record Goes (old left : Option (List ℕ)) (log rest : List ℕ → Log) (ev
   pub consumed : Consumes old left taken
   pub goes : (more : List ℕ) → log (taken ++ more) ≡ behind events (rest more)
 
--- Cluster, server and table stand for the last moment of the model's run of these records, in which the server failed at the fault points.
-pub record Here (limits : Limits) (old now : Server) (table : ConfTable) (downs : List FaultPoint) (kept : Kept) (events : List Event) : Type 0 where
+-- Cluster, server and table stand for the last moment of the model's run of these records, in which the server failed
+-- at the fault points.
+pub record Here (limits : Limits) (old now : Server) (table : ConfTable) (downs : List FaultPoint) (kept : Kept)
+    (events : List Event) : Type 0 where
   pub state : IsState limits kept.requests kept.place now.tree table (end_of (service limits) downs events)
   pub requests : kept.requests ≡ requests_of events
   pub counted : kept.events ≡ length events
@@ -58,7 +60,8 @@ TurnSays limits log old now kept n (turns.Over ended) = Ran limits log old now e
 -- from any run so far a turn leads to where this one says
 abbrev pub Turns : Snapshot → Snapshot → Kept → Kept → ℕ → Turn → Type 0
 Turns before now kept kept' place result =
-    (limits : Limits) (log : List ℕ → Log) (old : Snapshot) (n : ℕ) → limits.f ≡ 0 → Going limits log old before kept (suc n) place → TurnSays limits log old now kept' n result
+    (limits : Limits) (log : List ℕ → Log) (old : Snapshot) (n : ℕ) → limits.f ≡ 0 →
+    Going limits log old before kept (suc n) place → TurnSays limits log old now kept' n result
 
 -- the status of an error of the source, at an item that begins at this byte
 abbrev pub read_status : ReadErr → ℕ → Status

@@ -36,7 +36,8 @@ all_records limits = records_from 16777216 limits.k [] 24
 
 abbrev pub Begun : Limits → Snapshot → Snapshot → Result Kept SinkErr → Type 0
 Begun limits old new (Ok kept) = Going limits (all_records limits) old new kept 16777216 24 × (kept.events ≡ 0)
-Begun limits old new (Err e) = Ran limits (all_records limits) old new (write_status e) ⊎ ((e ≡ NoMemory) × Unstarted old new)
+Begun limits old new (Err e) = Ran limits (all_records limits) old new (write_status e) ⊎
+    ((e ≡ NoMemory) × Unstarted old new)
 
 abbrev pub RunsAll : Limits → Snapshot → Snapshot → Status → Type 0
 RunsAll limits old new s = Ran limits (all_records limits) old new s ⊎ ((s ≡ status.NoMemory) × Unstarted old new)
@@ -46,8 +47,10 @@ RunsAll limits old new s = Ran limits (all_records limits) old new s ⊎ ((s ≡
 -- what stops a log with this header before its records, if anything does
 abbrev pub Refuses : {X : Type 0} → (X → ServerLimits) → Header → List X → Option Status → Type 0
 Refuses {X} most h servers None =
-    (3 * h.f + 1 ≤ length servers) × ((x : X) → slice_get servers 0 ≡ Some x → is_small h (most x) ≡ false) × ((log : Log) → by_bench most h servers log ≡ log)
-Refuses {X} most h servers (Some s) = (stop : Stop) × (s ≡ status_of stop) × IsBench stop × ((log : Log) → by_bench most h servers log ≡ stops stop)
+    (3 * h.f + 1 ≤ length servers) × ((x : X) → slice_get servers 0 ≡ Some x → is_small h (most x) ≡ false) ×
+    ((log : Log) → by_bench most h servers log ≡ log)
+Refuses {X} most h servers (Some s) = (stop : Stop) × (s ≡ status_of stop) × IsBench stop ×
+    ((log : Log) → by_bench most h servers log ≡ stops stop)
 
 -- only this position may differ
 pub record ChangesAt {X : Type 0} (r : ℕ) (old new : List X) : Type 0 where
@@ -55,13 +58,15 @@ pub record ChangesAt {X : Type 0} (r : ℕ) (old new : List X) : Type 0 where
   pub others : (k : ℕ) → k ≢ r → slice_get new k ≡ slice_get old k
 
 -- No replica was started: nothing was written, and unless memory wanted, no server was called that changes it.
-pub record Early {X : Type 0} (state : X → Server) (left left' held held' : Option (List ℕ)) (servers servers' : List X) (ended : Status) : Type 0 where
+pub record Early {X : Type 0} (state : X → Server) (left left' held held' : Option (List ℕ))
+    (servers servers' : List X) (ended : Status) : Type 0 where
   pub stopped : Stopped left left' (log_of (λ s. (state s).limits) servers) ended
   pub held_stays : held' ≡ held
   pub servers_stay : ended ≢ status.NoMemory → servers' ≡ servers
 
 -- The replica of the first server was started, and ran.
-pub record Started {X : Type 0} (state : X → Server) (left left' held held' : Option (List ℕ)) (servers servers' : List X) (tables' : List ConfTable) (downs' : List FaultPoint) (ended : Status) : Type 0 where
+pub record Started {X : Type 0} (state : X → Server) (left left' held held' : Option (List ℕ))
+    (servers servers' : List X) (tables' : List ConfTable) (downs' : List FaultPoint) (ended : Status) : Type 0 where
   pub server : X
   pub is_server : slice_get servers 0 ≡ Some server
   pub server' : X
@@ -71,11 +76,14 @@ pub record Started {X : Type 0} (state : X → Server) (left left' held held' : 
   pub table' : ConfTable
   pub is_table' : slice_get tables' 0 ≡ Some table'
   pub header : Header
-  pub ran : Ran (limits_of header) (log_of (λ s. (state s).limits) servers) (snapshot left held (state server) table []) (snapshot left' held' (state server') table' downs') ended
+  pub ran : Ran (limits_of header) (log_of (λ s. (state s).limits) servers)
+      (snapshot left held (state server) table []) (snapshot left' held' (state server') table' downs') ended
   pub behind : List ℕ
   pub is_header : header_at ran.ends.taken ≡ Some (header, behind)
 
 -- one or the other, and no server beside the first is touched
-pub record Replayed {X : Type 0} (state : X → Server) (left left' held held' : Option (List ℕ)) (servers servers' : List X) (tables' : List ConfTable) (downs' : List FaultPoint) (ended : Status) : Type 0 where
-  pub came : Early state left left' held held' servers servers' ended ⊎ Started state left left' held held' servers servers' tables' downs' ended
+pub record Replayed {X : Type 0} (state : X → Server) (left left' held held' : Option (List ℕ))
+    (servers servers' : List X) (tables' : List ConfTable) (downs' : List FaultPoint) (ended : Status) : Type 0 where
+  pub came : Early state left left' held held' servers servers' ended ⊎
+      Started state left left' held held' servers servers' tables' downs' ended
   pub others : ChangesAt 0 servers servers'

@@ -30,10 +30,14 @@ HoldsOf log taken left P = P (log taken) × IfSome left (λ more. P (log (taken 
 -- what a status says of the log and of the records that were stepped
 abbrev pub Says : Status → (List ℕ → Log) → List ℕ → Option (List ℕ) → List Event → Type 0
 Says status.Done log taken left events = (log taken ≡ record { events = events; stop = whole }) × IsAtEnd left
-Says (status.BadLog at) log taken left events = HoldsOf log taken left (λ l. l ≡ record { events = events; stop = bad at })
-Says (status.NotBuilt at) log taken left events = HoldsOf log taken left (λ l. l ≡ record { events = events; stop = not_built at })
-Says (status.TooFewServers have need) log taken left events = HoldsOf log taken left (λ l. l ≡ record { events = events; stop = too_few have need })
-Says (status.ServerTooSmall server) log taken left events = HoldsOf log taken left (λ l. l ≡ record { events = events; stop = too_small server })
+Says (status.BadLog at) log taken left events =
+    HoldsOf log taken left (λ l. l ≡ record { events = events; stop = bad at })
+Says (status.NotBuilt at) log taken left events =
+    HoldsOf log taken left (λ l. l ≡ record { events = events; stop = not_built at })
+Says (status.TooFewServers have need) log taken left events =
+    HoldsOf log taken left (λ l. l ≡ record { events = events; stop = too_few have need })
+Says (status.ServerTooSmall server) log taken left events =
+    HoldsOf log taken left (λ l. l ≡ record { events = events; stop = too_small server })
 -- every record that lies whole in what was taken was stepped
 Says status.ReadFault log taken left events = (log taken).events ≡ events
 Says status.WriteFault log taken left events = HoldsOf log taken left (λ l. IsPrefix events l.events)
@@ -63,7 +67,8 @@ pub record Printed (old new : Option (List ℕ)) (status : Status) (text : List 
 
 -- A WHOLE RUN
 
--- what a run changes: what the source has left and the sink holds, where they tell; the replica's server and table; and the fault points
+-- what a run changes: what the source has left and the sink holds, where they tell; the replica's server and table;
+-- and the fault points
 pub record Snapshot : Type 0 where
   pub left : Option (List ℕ)
   pub held : Option (List ℕ)
@@ -80,9 +85,11 @@ SeatStands limits tree table Down = Unit {0}
 pub record Ran (limits : Limits) (log : List ℕ → Log) (old new : Snapshot) (ended : Status) : Type 0 where
   pub events : List Event
   pub ends : Ends old.left new.left log ended events
-  -- what was written is the text of the lines of the model's run of these records, in which the server fails at the fault points
+  -- what was written is the text of the lines of the model's run of these records, in which the server fails at the
+  -- fault points
   pub printed : Printed old.held new.held ended (text_of (end_of (service limits) new.downs events).lines)
-  -- each reply among the lines is the service's at its place, each place that the replica passed has one, and its array is that of its place
+  -- each reply among the lines is the service's at its place, each place that the replica passed has one, and its
+  -- array is that of its place
   pub right : IsRight (service limits) (end_of (service limits) new.downs events)
   pub requests : (end_of (service limits) new.downs events).state.requests ≡ requests_of events
   -- the server of a live replica holds exactly its array

@@ -24,6 +24,7 @@ status_text ReadFault = codes "read fault"
 status_text WriteFault = codes "write fault"
 status_text LinkFault = codes "link fault"
 status_text NoMemory = codes "no memory"
-status_text (TooFewServers have need) = codes "too few servers: have " ++ (decimal have ++ (codes ", need " ++ decimal need))
+status_text (TooFewServers have need) = codes "too few servers: have "
+    ++ (decimal have ++ (codes ", need " ++ decimal need))
 status_text (ServerTooSmall server) = codes "server " ++ (decimal server ++ codes " too small")
 status_text (NotBuilt at) = codes "not built at " ++ decimal at

@@ -15,24 +15,29 @@ use Rattle.basefs.specs.declared.turn.Turn.TheVariants.{Goes, Over}
 use Rattle.basefs.specs.Run.{Snapshot}
 
 abbrev pub snapshot : Option (List ℕ) → Option (List ℕ) → Server → ConfTable → List FaultPoint → Snapshot
-snapshot left held server table downs = record { left = left; held = held; server = server; table = table; downs = downs }
+snapshot left held server table downs =
+    record { left = left; held = held; server = server; table = table; downs = downs }
 
 -- the cluster stepped, and its lines were written, or some of them
-pub record Written (old new : Kept) (server server' : Server) (table table' : ConfTable) (downs downs' : List FaultPoint)
+pub record Written (old new : Kept) (server server' : Server) (table table' : ConfTable)
+    (downs downs' : List FaultPoint)
     (held held' : Option (List ℕ)) (event : Event) (result : Result Unit SinkErr) : Type 0 where
   pub lines : List Line
   pub steps : Steps old new server server' table table' downs downs' event lines
   pub writes : Writes held held' (text_of lines) result
 
 -- memory wanted before the cluster had stepped
-pub record Wanted (server server' : Server) (downs downs' : List FaultPoint) (held held' : Option (List ℕ)) (result : Result Unit SinkErr) : Type 0 where
+pub record Wanted (server server' : Server) (downs downs' : List FaultPoint) (held held' : Option (List ℕ))
+    (result : Result Unit SinkErr) : Type 0 where
   pub is : result ≡ Err NoMemory
   pub downs_stay : downs' ≡ downs
   pub held_stay : held' ≡ held
 
-abbrev pub Stepped : Kept → Kept → Server → Server → ConfTable → ConfTable → List FaultPoint → List FaultPoint → Option (List ℕ) → Option (List ℕ) → Event → Result Unit SinkErr → Type 0
+abbrev pub Stepped : Kept → Kept → Server → Server → ConfTable → ConfTable → List FaultPoint → List FaultPoint →
+    Option (List ℕ) → Option (List ℕ) → Event → Result Unit SinkErr → Type 0
 Stepped old new server server' table table' downs downs' held held' event result =
-    Written old new server server' table table' downs downs' held held' event result ⊎ Wanted server server' downs downs' held held' result
+    Written old new server server' table table' downs downs' held held' event result ⊎
+    Wanted server server' downs downs' held held' result
 
 -- the next record is not far, and the cluster has stepped once more
 abbrev pub IsNear : Kept → Kept → ℕ → Turn → Type 0

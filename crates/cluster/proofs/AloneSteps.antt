@@ -1,5 +1,5 @@
 -- The steps of one replica alone.
-use Rattle.std.proofs.Common.{◌≡◌, ℕ, zero, suc, ◌+◌, ◌≤◌, true, false, cond, List, [], ◌∷◌, ◌++◌, map, refl, sym, ◌∙◌, ap, arith}
+use Rattle.std.proofs.Common.{◌≡◌, ℕ, zero, suc, ◌+◌, true, false, cond, List, [], ◌∷◌, ◌++◌, map, refl, ◌∙◌, ap, arith}
 use Rattle.std.specs.Prelude.{Some, None, ◌==◌, nat_le, not, count_by, slice_get}
 use Rattle.std.proofs.lemmas.Bool.Decides.{nat_tests}
 use Rattle.std.proofs.lemmas.Slice.Eq.{bytes_eq-Decides}
@@ -87,17 +87,6 @@ pub rounds_more : (S : Service) (faults : Faults) (m : Moment) (k : ℕ) → rou
 rounds_more S faults m k =
     ap (last m) (moments-append (slot_turn S faults) m (slots k 1) (record { round = suc k; replica = 0 } ∷ []))
     ∙ last-append m (moments (slot_turn S faults) m (slots k 1)) (moments (slot_turn S faults) (rounds S faults m k) (record { round = suc k; replica = 0 } ∷ []))
-
--- rounds in which the same servers fail
-pub rounds_same : (S : Service) (F G : Faults) (m : Moment) (k : ℕ) → ((i : ℕ) → i ≤ k → F i 0 ≡ G i 0) → rounds S F m k ≡ rounds S G m k
-rounds_same S F G m zero h = refl
-rounds_same S F G m (suc k) h =
-    let before = rounds_same S F G m k (λ i le. h i (omega arith)) in
-    let slot : Slot = record { round = suc k; replica = 0 } in
-    rounds_more S F m k
-    ∙ ap (λ n. slot_turn S F n slot) before
-    ∙ ap (λ b. takes_turn S b 0 (turn (rounds S G m k).state 0) (rounds S G m k)) (h (suc k) (omega arith))
-    ∙ sym (rounds_more S G m k)
 
 -- a moment in which nothing can be run
 abbrev pub IsQuiet : Moment → Type 0

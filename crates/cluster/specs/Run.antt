@@ -25,7 +25,8 @@ abbrev pub fresh : Service → Moment
 fresh S = record {
   state = record {
     requests = [];
-    replicas = replicate (3 * S.f + 1) (record { condition = Live (record { array = S.empty; place = 0 }); words = [] });
+    replicas = replicate (3 * S.f + 1)
+        (record { condition = Live (record { array = S.empty; place = 0 }); words = [] });
     decisions = [];
   };
   lines = [];

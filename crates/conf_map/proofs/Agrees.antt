@@ -8,13 +8,11 @@ use Rattle.std.proofs.lemmas.List.Sums.{sum_by-cons, count_by-le-length}
 use Rattle.std.proofs.lemmas.List.Quantifiers.{position-Some}
 use Rattle.std.proofs.lemmas.Slice.Eq.{bytes_eq-Decides}
 use Rattle.nfs2_types.specs.declared.Limits.{Limits}
-use Rattle.server_trait.specs.Tree.{Tree, Node, Names, Content, BytesOf, TextOf, NamesOf, node_at, names_in, names_to, one_if}
+use Rattle.server_trait.specs.Tree.{Tree, Names, Content, BytesOf, TextOf, NamesOf, names_in, names_to, one_if}
 use Rattle.server_trait.specs.Tree as tree
-use Rattle.server_trait.specs.Step.{NoRoom}
 use Rattle.server_trait.specs.Sums.{total}
 use Rattle.server_trait.proofs.SumLaws.{total-none, total-ones, total-insert_new}
 use Rattle.server_trait.proofs.TreeLaws.{some_and, some_none, some_same, get-insert_other, one_or_not, names_at-node}
-use Rattle.server_trait.specs.declared.server.ServerLimits.{ServerLimits}
 use Rattle.server_trait.specs.declared.bench.ConfTable.{ConfTable}
 use Rattle.abs_model.specs.declared.entry.NameRow.{NameRow}
 use Rattle.abs_model.specs.declared.entry.Object.{Object}
@@ -113,11 +111,6 @@ module _ (limits : Limits) (s : Option Tree) (table : ConfTable) (A : List Entry
   pub nodes_free : (i : ℕ) → free A ≡ Some i → len st.tree.nodes ≤ 1 + length A
   nodes_free i is = let p = position-Some can_take A i null_entry is in nodes_fewer i p.0 (and_left _ _ p.1)
 
-  -- A server of two nodes more than entries has room for a node where an index is free, as long as its bytes suffice.
-  pub room_to_make : (most : ServerLimits) (bytes i : ℕ) → free A ≡ Some i → 2 + length A ≤ most.nodes → 1024 + (array.used A + bytes) ≤ most.bytes → NoRoom most st.tree 1 0 bytes → ⊥
-  room_to_make most bytes i is nodes space (inl over) = let few = nodes_free i is in absurd (omega (arith, few))
-  room_to_make most bytes i is nodes space (inr over) = let same = used_agrees in absurd (omega (arith, same))
-
 -- NAMES OF ONE OBJECT
 
 bytes_not : (a b : List ℕ) → a ≢ b → bytes_eq a b ≡ false
@@ -167,7 +160,3 @@ module _ (limits : Limits) (s : Option Tree) (table : ConfTable) (A : List Entry
   -- what is no directory is not the root
   pub not_root : is_dir (entry_at A i) ≡ false → i ≢ 0
   not_root other e = let bad : true ≡ false = sym v.root ∙ ap (λ i. is_dir (entry_at A i)) (sym e) ∙ other in cc
-
-  -- Each directory but the root has one name.
-  pub dir_links : is_dir (entry_at A i) ≡ true → i ≢ 0 → tree.links st.tree h ≡ 1
-  dir_links dir ne = links_agrees ne ∙ v.one_name i dir ne

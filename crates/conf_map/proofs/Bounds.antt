@@ -3,7 +3,7 @@ use Rattle.std.proofs.Common.{◌≡◌, ℕ, ◌+◌, ◌≤◌, arith, false, 
 use Rattle.std.proofs.lemmas.List.Sums.{count_by-le-length}
 use Rattle.std.proofs.lemmas.Option.{slice_get_within}
 use Rattle.nfs2_types.specs.declared.Limits.{Limits}
-use Rattle.server_trait.specs.Tree.{Tree, Node, Names, Content, node_at, names_in, size_of, links_of}
+use Rattle.server_trait.specs.Tree.{Tree, Node, node_at, names_in, links_of}
 use Rattle.server_trait.specs.Tree as tree
 use Rattle.server_trait.specs.Calls.{IsAttr}
 use Rattle.server_trait.proofs.TreeLaws.{some_and, some_same}

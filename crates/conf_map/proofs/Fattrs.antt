@@ -3,7 +3,7 @@ use Rattle.std.proofs.Common.{◌≡◌, ℕ, ◌+◌, ◌*◌, true, false, Boo
 use Rattle.nfs2_types.specs.declared.fattr.Kind.{Kind}
 use Rattle.nfs2_types.specs.declared.Fattr.{Fattr}
 use Rattle.nfs2_types.specs.declared.Limits.{Limits}
-use Rattle.server_trait.specs.Tree.{Tree, Node, Names, Content, BytesOf, TextOf, NamesOf, node_at, names_at, names_in, size_of, links_of, kind_of, one_if, is_dir_at}
+use Rattle.server_trait.specs.Tree.{Tree, Node, Names, Content, BytesOf, TextOf, NamesOf, names_in, size_of, links_of, kind_of, one_if, is_dir_at}
 use Rattle.server_trait.specs.Tree as tree
 use Rattle.server_trait.specs.Calls.{IsAttr}
 use Rattle.server_trait.proofs.TreeLaws.{some_and, some_none, some_same, names_at-node}

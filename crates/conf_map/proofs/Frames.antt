@@ -1,5 +1,5 @@
 -- What a change leaves as it was: rows, their nodes, and where the nodes are.
-use Rattle.std.proofs.Common.{◌≡◌, ◌≢◌, ◌⊎◌, inl, inr, ℕ, zero, suc, true, List, [], ◌∷◌, Option, Some, None, slice_get, refl, sym, ap, ◌∙◌}
+use Rattle.std.proofs.Common.{◌≡◌, ◌⊎◌, inl, inr, ℕ, zero, suc, true, List, [], ◌∷◌, Option, Some, None, slice_get, refl, sym, ap, ◌∙◌}
 use Rattle.std.specs.Option.{option_and_then, option_map, unwrap_or}
 use Rattle.std.specs.Ordering.{nat_cmp}
 use Rattle.std.specs.Cmp.Lexicographic.{slice_cmp}
@@ -177,10 +177,6 @@ object_node t rows r Null k h is = absurd (some_none is k)
 object_node t rows r (File a b) k h is = (k.node, ap (node_at t) (some_same is k.is_handle) ∙ k.is_node)
 object_node t rows r (Link a b) k h is = (k.node, ap (node_at t) (some_same is k.is_handle) ∙ k.is_node)
 object_node t rows r (Dir a b) k h is = (k.node, ap (node_at t) (some_same is k.is_handle) ∙ k.is_node)
-
-pub some_handle : (o : Option (List ℕ)) → o ≢ None → (h : List ℕ) × (o ≡ Some h)
-some_handle None ne = absurd (ne refl)
-some_handle (Some h) ne = (h, refl)
 
 pub names_in-with_names : (f : Names → Names) (n : Node) (m : Names) → names_in n.content ≡ Some m → names_in (with_names f n).content ≡ Some (f m)
 names_in-with_names f n m = by_content n.content

@@ -1,5 +1,5 @@
 -- A tree with empty directories, and a table with one row in use, stand for the array with which a service begins.
-use Rattle.std.proofs.Common.{inl, inr, ◌≡◌, ◌⊎◌, ◌↔◌, ℕ, zero, suc, ◌-◌, arith, true, false, cond, List, ◌∷◌, Option, Some, None, length, slice_get, replicate, refl, sym, ap, ◌∙◌, subst}
+use Rattle.std.proofs.Common.{inl, inr, ◌≡◌, ◌⊎◌, ◌↔◌, ℕ, zero, suc, ◌-◌, true, false, cond, List, ◌∷◌, Option, Some, None, length, slice_get, replicate, refl, sym, ap, ◌∙◌, subst}
 use Rattle.std.specs.Ordering.{nat_cmp, is_eq}
 use Rattle.std.specs.Cmp.Lexicographic.{slice_cmp}
 use Rattle.std.specs.BTreeMap as ordered
@@ -23,9 +23,6 @@ no_handle : (n : ℕ) (k : ℕ) → handle_at (replicate n null_row) k ≡ None
 no_handle zero k = refl
 no_handle (suc n) zero = refl
 no_handle (suc n) (suc k) = no_handle n k
-
-zero_suc : (k : ℕ) → zero ≡ suc k → ⊥
-zero_suc k e = omega arith
 
 module _ (s : Option Tree) (table : ConfTable) (export : List ℕ) (number n : ℕ) (begun : IsEmptyTree s export number)
     (rows : table.rows.items ≡ export_row export number ∷ replicate (n - 1) null_row)

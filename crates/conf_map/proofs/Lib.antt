@@ -27,5 +27,4 @@ pub mod SetNames
 pub mod Shows
 pub mod Sizes
 pub mod Targets
-pub mod Timed
 pub mod UsedBytes

@@ -151,9 +151,6 @@ module _ (s s' : Option Tree) (table table' : ConfTable) (A A' : List Entry) (t'
         ]
       ]
 
-  apart_di : d ≢ i
-  apart_di = had_not_i d dh at_d
-
   lead_still : (p j : ℕ) → LeadTo (names_of (entry_at A p)) j → LeadTo (names_of (entry_at A' p)) j
   lead_still p j l = elim (one_or_not p d) as (λ _. LeadTo (names_of (entry_at A' p)) j) [
     | inl e ↦ subst (λ names. LeadTo names j) (sym (ap (λ p. names_of (entry_at A' p)) e ∙ names_after _ _ _ _ _ _ _ _ _ _ c.in_dir))

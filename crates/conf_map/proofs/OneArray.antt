@@ -1,10 +1,10 @@
 -- A tree and its table stand for one valid array.
-use Rattle.std.proofs.Common.{◌≡◌, ℕ, suc, arith, List, [], ◌∷◌, true, Option, Some, None, length, slice_get, IsSomeAnd, refl, sym, ap, ◌∙◌, subst}
+use Rattle.std.proofs.Common.{◌≡◌, ℕ, suc, arith, List, [], ◌∷◌, true, Option, Some, None, length, slice_get, refl, sym, ap, ◌∙◌, subst}
 use Rattle.std.specs.List.{list_all}
 use Rattle.std.specs.FinMap.{get}
 use Rattle.std.proofs.lemmas.Bool.{and_parts, eqb-true}
 use Rattle.std.proofs.lemmas.Option.{slice_get_within}
-use Rattle.server_trait.specs.Tree.{Tree, Node, Content, NamesOf, Names, node_at, names_in, bytes_in, text_in}
+use Rattle.server_trait.specs.Tree.{Tree, Node, Names, node_at, names_in, bytes_in, text_in}
 use Rattle.server_trait.proofs.TreeLaws.{some_and, some_none, some_same, and_then_some, slice_get-along}
 use Rattle.server_trait.specs.declared.bench.ConfEntry.{ConfEntry}
 use Rattle.server_trait.specs.declared.bench.ConfTable.{ConfTable}
@@ -85,9 +85,6 @@ leads_same rows (Some h) (Some r) None k l same = absurd l
 leads_same rows (Some h) (Some r) (Some s) k l same = ap Some (same h r s refl refl k l)
 
 module _ (t : Tree) (rows : List ConfEntry) (r : ConfEntry) where
-  names_led : (m : Names) (c : Content) (names : List NameRow) → c ≡ NamesOf m → IsSomeAnd (names_in c) (SameNames rows names) → SameNames rows names m
-  names_led m c names is led = subst (λ c. IsSomeAnd (names_in c) (SameNames rows names)) is led
-
   live : (o : Object) (a : Attr) → r.handle ≡ None → Holds t rows r o a → ⊥
   live o a none k = some_none k.is_handle none
 

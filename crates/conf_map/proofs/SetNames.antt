@@ -12,7 +12,7 @@ use Rattle.abs_model.specs.declared.entry.Entry.{Entry}
 use Rattle.abs_model.specs.Objects.{names_of, row_of, attr_of, with_attr}
 use Rattle.abs_model.specs.Array.{entry_at}
 use Rattle.conf_map.specs.Stands.{handle_at, Leads, SameNames, IsParent, LeadTo, RowIs, Stands}
-use Rattle.conf_map.specs.Moves.{SetsName, StaysAs, OthersStay, AddsName, DropsName, MovesName}
+use Rattle.conf_map.specs.Moves.{SetsName, StaysAs, OthersStay, AddsName, DropsName}
 use Rattle.conf_map.proofs.Frames.{same_entry, entry_at-some, handle_of_row, same_handle, leads_frame, object_timed, timed, names_of-with_attr, is_dir-with_attr, names_in-with_names, number_at}
 use Rattle.conf_map.proofs.Kept.{Keeps, stands_kept, one_row}
 
@@ -160,9 +160,3 @@ stands_dropped s s' table table' A A' t' d i name st c has =
     (λ row is. ap (λ (r : NameRow). r.index) (some_same is c.was) ∙ c.was_index)
     (λ _. tt)
     has
-
--- a name moves to another directory, or becomes another
-pub stands_moved : (s s' : Option Tree) (table table' : ConfTable) (A A' : List Entry) (t' : Tree) (d e i : ℕ) (name to_name : List ℕ) (st : Stands s table A) → MovesName st.tree table A d name e to_name i t' table' A' → s' ≡ Some t' → Stands s' table' A'
-stands_moved s s' table table' A A' t' d e i name to_name st c has =
-    let added = stands_added s (Some c.between) table c.between_table A c.between_array c.between e i to_name st c.adds refl in
-    stands_dropped (Some c.between) s' c.between_table table' c.between_array A' t' d i name added (subst (λ t. DropsName t c.between_table c.between_array d name i t' table' A') (some_same refl added.has_tree) c.drops) has

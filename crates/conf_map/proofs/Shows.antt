@@ -43,6 +43,3 @@ oid_read s table A i h r k is =
 -- they stand for a valid array
 pub stand_valid : (limits : Limits) (s : Option Tree) (table : ConfTable) (A : List Entry) → AreWithin limits → StandsValid limits s table A → StandValid s table A
 stand_valid limits s table A within k = record { limits = limits; within = within; valid = k.valid; stands = k.stands }
-
-pub some_valid : (limits : Limits) (s : Option Tree) (table : ConfTable) → AreWithin limits → ((A : List Entry) × StandsValid limits s table A) → (A : List Entry) × StandValid s table A
-some_valid limits s table within k = (k.0, stand_valid limits s table k.0 within k.1)

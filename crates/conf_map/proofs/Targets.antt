@@ -1,26 +1,18 @@
 -- Where the names of a live directory lead: to the handles of the rows to which the entry's names lead.
-use Rattle.std.proofs.Common.{◌≡◌, ◌↔◌, ℕ, arith, true, false, List, length, Option, Some, None, refl, sym, ap, ◌∙◌, subst}
-use Rattle.std.specs.Prelude.{is_some, unwrap_or, option_map}
+use Rattle.std.proofs.Common.{◌≡◌, ◌↔◌, ℕ, true, false, List, Option, Some, None, refl, sym, ap, ◌∙◌, subst}
 use Rattle.std.specs.Option.{option_and_then}
 use Rattle.std.specs.FinMap.{get}
-use Rattle.std.proofs.lemmas.Option.{slice_get_past}
-use Rattle.nfs2_types.specs.declared.Limits.{Limits}
-use Rattle.server_trait.specs.Tree.{Tree, Node, Names, node_at, names_at, names_in, target}
-use Rattle.server_trait.specs.Step.{IsStale, IsNo, HasName, LacksName}
-use Rattle.server_trait.proofs.TreeLaws.{some_and, is_some_and, some_none, some_same, names_at-node}
+use Rattle.server_trait.specs.Tree.{Tree, Node, Names, names_at, names_in, target}
+use Rattle.server_trait.specs.Step.{IsStale, IsNo, LacksName}
+use Rattle.server_trait.proofs.TreeLaws.{some_and, is_some_and, some_none, names_at-node}
 use Rattle.server_trait.specs.declared.bench.ConfEntry.{ConfEntry}
 use Rattle.server_trait.specs.declared.bench.ConfTable.{ConfTable}
 use Rattle.abs_model.specs.declared.entry.NameRow.{NameRow}
 use Rattle.abs_model.specs.declared.entry.Entry.{Entry}
 use Rattle.abs_model.specs.Objects.{is_dir, names_of, row_of}
-use Rattle.abs_model.specs.Array.{entry_at, has_name}
-use Rattle.abs_model.specs.Array as array
-use Rattle.abs_model.specs.Valid.{Valid}
 use Rattle.conf_map.specs.Stands.{handle_at, Leads, SameNames, Stands}
 use Rattle.conf_map.specs.Moves.{IsAt}
-use Rattle.conf_map.proofs.Frames.{entry_at-some}
-use Rattle.conf_map.proofs.ArrayFacts.{IsLed, led_by}
-use Rattle.conf_map.proofs.LiveRows.{at_handle, same_content}
+use Rattle.conf_map.proofs.LiveRows.{same_content}
 use Rattle.conf_map.proofs.Sizes.{names_content, dir_content}
 
 -- the handle of the row to which a name's row leads
@@ -61,13 +53,6 @@ module _ (s : Option Tree) (table : ConfTable) (A : List Entry) (st : Stands s t
       let m = names_content table.rows.items e.generation e.object n.content dir (same_content s table A st d h r n e at) in
       (m.0, names_at-node st.tree h n at.is_node ∙ m.1, m.2)
 
-  -- a live directory is one to the server
-  pub dir_not_other : is_dir e ≡ true → IsNo names_in st.tree h → ⊥
-  dir_not_other dir other =
-      let m = names_content table.rows.items e.generation e.object n.content dir (same_content s table A st d h r n e at) in
-      let k = some_and (node_at st.tree h) (λ n. names_in n.content ≡ None) other in
-      some_none m.1 (ap (λ (n : Node). names_in n.content) (some_same at.is_node k.1) ∙ k.2)
-
   -- what is no directory is none to the server
   pub other_not_dir : is_dir e ≡ false → IsNo names_in st.tree h
   other_not_dir other = is_some_and (λ n. names_in n.content ≡ None) at.is_node (none (names_in n.content) refl)
@@ -81,10 +66,6 @@ module _ (s : Option Tree) (table : ConfTable) (A : List Entry) (st : Stands s t
     led =
         let m = dir_map dir in
         subst (λ o. Leads table.rows.items o (row_of name (names_of e))) (sym (ap (option_and_then (λ (m : Names). get m name)) m.1)) (m.2 name)
-
-    -- What a name leads to is the handle of the row to which the entry's name leads, and none where there is none.
-    pub target_agrees : target st.tree h name ≡ handle_of table.rows.items (row_of name (names_of e))
-    target_agrees = leads_same table.rows.items (target st.tree h name) (row_of name (names_of e)) led
 
     -- where the entry has the name
     pub target_some : (row : NameRow) → row_of name (names_of e) ≡ Some row → (x : List ℕ) × (target st.tree h name ≡ Some x) × (handle_at table.rows.items row.index ≡ Some x)
@@ -109,39 +90,3 @@ module _ (s : Option Tree) (table : ConfTable) (A : List Entry) (st : Stands s t
           (λ l. let k = some_and (names_at st.tree h) (λ m. get m name ≡ None) l in no_row_of_target (ap (option_and_then (λ (m : Names). get m name)) k.1 ∙ k.2)),
           (λ is. is_some_and (λ m. get m name ≡ None) m.1 (sym (ap (option_and_then (λ (m : Names). get m name)) m.1) ∙ target_none is)),
         )
-
-    -- and has it where the entry does
-    pub has_agrees : HasName st.tree h name ↔ (has_name A d name ≡ true)
-    has_agrees = by_row (row_of name (names_of e)) refl
-      where
-        here : has_name A d name ≡ is_some (row_of name (names_of e))
-        here = ap (λ e. is_some (row_of name (names_of e))) (entry_at-some A d e at.is_entry)
-
-        by_row : (o : Option NameRow) → row_of name (names_of e) ≡ o → HasName st.tree h name ↔ (has_name A d name ≡ true)
-        by_row (Some row) is = let x = target_some row is in ((λ _. here ∙ ap is_some is), (λ _. ap is_some x.1))
-        by_row None is =
-            let gone : is_some (target st.tree h name) ≡ false = ap is_some (target_none is) in
-            let lacks : has_name A d name ≡ false = here ∙ ap is_some is in
-            ((λ t. absurd (let bad : false ≡ true = sym gone ∙ t in cc)), (λ t. absurd (let bad : false ≡ true = sym lacks ∙ t in cc)))
-
-    -- the handle of the index to which the array's name leads; past the end there is none
-    pub target_index : target st.tree h name ≡ handle_at table.rows.items (array.target A d name)
-    target_index = target_agrees ∙ by_row (row_of name (names_of e)) ∙ sym (ap (λ e. handle_at table.rows.items (unwrap_or (option_map (λ (r : NameRow). r.index) (row_of name (names_of e))) (length A))) (entry_at-some A d e at.is_entry))
-      where
-        by_row : (o : Option NameRow) → handle_of table.rows.items o ≡ handle_at table.rows.items (unwrap_or (option_map (λ (r : NameRow). r.index) o) (length A))
-        by_row (Some row) = refl
-        by_row None = sym (ap (option_and_then (λ (r : ConfEntry). r.handle)) (slice_get_past table.rows.items (length A) (omega (arith, st.size))))
-
-module _ (limits : Limits) (s : Option Tree) (table : ConfTable) (A : List Entry) (st : Stands s table A) (v : Valid limits A)
-    (d : ℕ) (h : List ℕ) (r : ConfEntry) (n : Node) (e : Entry) (at : IsAt st.tree table A d h r n e) where
-  -- A name of a valid array leads to a live entry of its generation, which is not the root.
-  pub row_led : (name : List ℕ) (row : NameRow) → row_of name (names_of e) ≡ Some row → IsLed A row
-  row_led name row is = led_by limits A v d e name row at.is_entry is
-
-  -- Where a name leads there are a row, a node and an entry.
-  pub target_row : is_dir e ≡ true → (name x : List ℕ) → target st.tree h name ≡ Some x →
-      (row : NameRow) × (r : ConfEntry) × (n : Node) × (e' : Entry) × (row_of name (names_of e) ≡ Some row) × IsLed A row × IsAt st.tree table A row.index x r n e'
-  target_row dir name x is =
-      let row = row_of_target s table A st d h r n e at dir name x is in
-      let k = at_handle s table A st row.0.index x row.2 in
-      (row.0, k.0, k.1, k.2, row.1, row_led name row.0 row.1, k.3)

@@ -30,14 +30,16 @@ pub record SameRow (old new : ConfEntry) : Type 0 where
   pub number : new.number ≡ old.number
 
 -- a row, its node and its entry
-pub record IsAt (t : Tree) (table : ConfTable) (A : List Entry) (i : ℕ) (handle : List ℕ) (row : ConfEntry) (node : Node) (entry : Entry) : Type 0 where
+pub record IsAt (t : Tree) (table : ConfTable) (A : List Entry) (i : ℕ) (handle : List ℕ) (row : ConfEntry)
+    (node : Node) (entry : Entry) : Type 0 where
   pub is_row : slice_get table.rows.items i ≡ Some row
   pub is_handle : row.handle ≡ Some handle
   pub is_node : node_at t handle ≡ Some node
   pub is_entry : slice_get A i ≡ Some entry
 
 -- 1. The node of one entry has another content or other attributes; its names are the same.
-pub record ChangesNode (t : Tree) (table : ConfTable) (A : List Entry) (i : ℕ) (t' : Tree) (table' : ConfTable) (A' : List Entry) : Type 0 where
+pub record ChangesNode (t : Tree) (table : ConfTable) (A : List Entry) (i : ℕ) (t' : Tree) (table' : ConfTable)
+    (A' : List Entry) : Type 0 where
   pub handle : List ℕ
   pub row : ConfEntry
   pub row' : ConfEntry
@@ -60,23 +62,10 @@ pub record ChangesNode (t : Tree) (table : ConfTable) (A : List Entry) (i : ℕ)
   pub dir : is_dir entry' ≡ is_dir entry
   pub object : IsObject t' table'.rows.items row' entry'.object
 
--- 2. Only the times of a row are others.
-pub record ChangesTimes (table : ConfTable) (A : List Entry) (i : ℕ) (table' : ConfTable) (A' : List Entry) : Type 0 where
-  pub row : ConfEntry
-  pub row' : ConfEntry
-  pub entry : Entry
-  pub is_row : slice_get table.rows.items i ≡ Some row
-  pub is_entry : slice_get A i ≡ Some entry
-  pub live : row.handle ≢ None
-  pub rows : IsSetAt i row' table.rows.items table'.rows.items
-  pub same_row : SameRow row row'
-  pub parent : row'.parent ≡ row.parent
-  pub by_handle : table'.by_handle ≡ table.by_handle
-  pub array : IsSetAt i (with_attr (record (attr_of entry) { atime = row'.atime; mtime = row'.mtime; ctime = row'.ctime }) entry) A A'
-
 -- A directory's name leads to another handle, or to none, and its entry's name to the row that goes with it.
 -- Its times may be others.
-pub record SetsName (t : Tree) (table : ConfTable) (A : List Entry) (d : ℕ) (name : List ℕ) (to : Option (List ℕ)) (to_row : Option NameRow) (t' : Tree) (table' : ConfTable) (A' : List Entry) : Type 0 where
+pub record SetsName (t : Tree) (table : ConfTable) (A : List Entry) (d : ℕ) (name : List ℕ) (to : Option (List ℕ))
+    (to_row : Option NameRow) (t' : Tree) (table' : ConfTable) (A' : List Entry) : Type 0 where
   pub handle : List ℕ
   pub row : ConfEntry
   pub row' : ConfEntry
@@ -106,8 +95,9 @@ pub record OthersStay {X : Type 0} (d i : ℕ) (old new : List X) : Type 0 where
   pub size : length new ≡ length old
   pub others : (j : ℕ) → j ≢ d → j ≢ i → slice_get new j ≡ slice_get old j
 
--- 3. A name is added, and leads to a new node, which gets the row of a null entry.
-pub record MakesNode (t : Tree) (table : ConfTable) (A : List Entry) (d : ℕ) (name : List ℕ) (i : ℕ) (t' : Tree) (table' : ConfTable) (A' : List Entry) : Type 0 where
+-- 2. A name is added, and leads to a new node, which gets the row of a null entry.
+pub record MakesNode (t : Tree) (table : ConfTable) (A : List Entry) (d : ℕ) (name : List ℕ) (i : ℕ) (t' : Tree)
+    (table' : ConfTable) (A' : List Entry) : Type 0 where
   pub handle : List ℕ
   pub node : Node
   pub old_row : ConfEntry
@@ -132,13 +122,15 @@ pub record MakesNode (t : Tree) (table : ConfTable) (A : List Entry) (d : ℕ) (
   pub row_parent : row.parent ≡ d
   pub row_generation : row.generation ≡ entry.generation
   pub by_handle : ordered.get (slice_cmp nat_cmp) table'.by_handle handle ≡ Some i
-  pub by_handles : (q : List ℕ) → q ≢ handle → ordered.get (slice_cmp nat_cmp) table'.by_handle q ≡ ordered.get (slice_cmp nat_cmp) table.by_handle q
+  pub by_handles : (q : List ℕ) → q ≢ handle → ordered.get (slice_cmp nat_cmp) table'.by_handle q
+      ≡ ordered.get (slice_cmp nat_cmp) table.by_handle q
   pub array : OthersStay d i A A'
   pub entry_now : slice_get A' i ≡ Some entry
   pub object : IsObject t' table'.rows.items row entry.object
 
 -- An object's row and entry have other times, or another parent; its node is the same.
-pub record StaysAs (t : Tree) (table : ConfTable) (A : List Entry) (i : ℕ) (handle : List ℕ) (t' : Tree) (table' : ConfTable) (A' : List Entry) : Type 0 where
+pub record StaysAs (t : Tree) (table : ConfTable) (A : List Entry) (i : ℕ) (handle : List ℕ) (t' : Tree)
+    (table' : ConfTable) (A' : List Entry) : Type 0 where
   pub row : ConfEntry
   pub row' : ConfEntry
   pub node : Node
@@ -148,11 +140,13 @@ pub record StaysAs (t : Tree) (table : ConfTable) (A : List Entry) (i : ℕ) (ha
   pub row_now : slice_get table'.rows.items i ≡ Some row'
   pub same_row : SameRow row row'
   pub entry_now : slice_get A' i ≡ Some entry'
-  pub entry_is : entry' ≡ with_attr (record (attr_of entry) { atime = row'.atime; mtime = row'.mtime; ctime = row'.ctime }) entry
+  pub entry_is : entry' ≡ with_attr
+      (record (attr_of entry) { atime = row'.atime; mtime = row'.mtime; ctime = row'.ctime }) entry
   pub parent : is_dir entry ≡ true → IsParent A' row'.parent i
 
--- 4. A name is added, or leads elsewhere than before, to a node that was there already.
-pub record AddsName (t : Tree) (table : ConfTable) (A : List Entry) (d : ℕ) (name : List ℕ) (i : ℕ) (t' : Tree) (table' : ConfTable) (A' : List Entry) : Type 0 where
+-- 3. A name is added, or leads elsewhere than before, to a node that was there already.
+pub record AddsName (t : Tree) (table : ConfTable) (A : List Entry) (d : ℕ) (name : List ℕ) (i : ℕ) (t' : Tree)
+    (table' : ConfTable) (A' : List Entry) : Type 0 where
   pub handle : List ℕ
   pub to_row : NameRow
   pub in_dir : SetsName t table A d name (Some handle) (Some to_row) t' table' A'
@@ -166,8 +160,9 @@ pub record AddsName (t : Tree) (table : ConfTable) (A : List Entry) (d : ℕ) (n
   pub by_handle : table'.by_handle ≡ table.by_handle
   pub array : OthersStay d i A A'
 
--- 5. A name is taken out, and the node that it led to stays.
-pub record DropsName (t : Tree) (table : ConfTable) (A : List Entry) (d : ℕ) (name : List ℕ) (i : ℕ) (t' : Tree) (table' : ConfTable) (A' : List Entry) : Type 0 where
+-- 4. A name is taken out, and the node that it led to stays.
+pub record DropsName (t : Tree) (table : ConfTable) (A : List Entry) (d : ℕ) (name : List ℕ) (i : ℕ) (t' : Tree)
+    (table' : ConfTable) (A' : List Entry) : Type 0 where
   pub handle : List ℕ
   pub old_row : NameRow
   pub in_dir : SetsName t table A d name None None t' table' A'
@@ -181,8 +176,9 @@ pub record DropsName (t : Tree) (table : ConfTable) (A : List Entry) (d : ℕ) (
   pub by_handle : table'.by_handle ≡ table.by_handle
   pub array : OthersStay d i A A'
 
--- 6. A name is taken out, and the node that it led to goes with it: no name of the array leads there any more.
-pub record DropsNode (t : Tree) (table : ConfTable) (A : List Entry) (d : ℕ) (name : List ℕ) (i : ℕ) (t' : Tree) (table' : ConfTable) (A' : List Entry) : Type 0 where
+-- 5. A name is taken out, and the node that it led to goes with it: no name of the array leads there any more.
+pub record DropsNode (t : Tree) (table : ConfTable) (A : List Entry) (d : ℕ) (name : List ℕ) (i : ℕ) (t' : Tree)
+    (table' : ConfTable) (A' : List Entry) : Type 0 where
   pub handle : List ℕ
   pub row : ConfEntry
   pub row' : ConfEntry
@@ -206,17 +202,9 @@ pub record DropsNode (t : Tree) (table : ConfTable) (A : List Entry) (d : ℕ) (
   pub row_null : row'.handle ≡ None
   pub row_generation : row'.generation ≡ row.generation
   pub by_handle : ordered.get (slice_cmp nat_cmp) table'.by_handle handle ≡ None
-  pub by_handles : (q : List ℕ) → q ≢ handle → ordered.get (slice_cmp nat_cmp) table'.by_handle q ≡ ordered.get (slice_cmp nat_cmp) table.by_handle q
+  pub by_handles : (q : List ℕ) → q ≢ handle → ordered.get (slice_cmp nat_cmp) table'.by_handle q
+      ≡ ordered.get (slice_cmp nat_cmp) table.by_handle q
   pub array : OthersStay d i A A'
   pub entry_now : slice_get A' i ≡ Some entry'
   pub entry_null : entry'.object ≡ Null
   pub entry_generation : entry'.generation ≡ entry.generation
-
--- A name moves: the second name is added, which keeps the first, and then the first is taken out. The tree, the table and
--- the array between the two are thought of alone.
-pub record MovesName (t : Tree) (table : ConfTable) (A : List Entry) (d : ℕ) (name : List ℕ) (e : ℕ) (to_name : List ℕ) (i : ℕ) (t' : Tree) (table' : ConfTable) (A' : List Entry) : Type 0 where
-  pub between : Tree
-  pub between_table : ConfTable
-  pub between_array : List Entry
-  pub adds : AddsName t table A e to_name i between between_table between_array
-  pub drops : DropsName between between_table between_array d name i t' table' A'

@@ -36,7 +36,8 @@ abbrev pub root_names : List ℕ → List ℕ → Names
 root_names export staging = insert (insert empty export_name export) staging_name staging
 
 abbrev pub DifferInNumber : Tree → Type 0
-DifferInNumber t = (p q : List ℕ) (m n : Node) → node_at t p ≡ Some m → node_at t q ≡ Some n → m.number ≡ n.number → p ≡ q
+DifferInNumber t = (p q : List ℕ) (m n : Node) → node_at t p ≡ Some m → node_at t q ≡ Some n → m.number ≡ n.number →
+    p ≡ q
 
 -- Besides the root and an empty staging directory, each node has its row, and each handle of a row is
 -- that of a node. The node of the first row is the export directory. `by_handle` has the row of each handle.
@@ -47,9 +48,11 @@ pub record Placed (t : Tree) (table : ConfTable) : Type 0 where
   pub staging_has : names_at t staging ≡ Some empty
   pub root_apart : staging ≢ t.root
   pub is_export : handle_at table.rows.items 0 ≡ Some export
-  pub by_handle : (h : List ℕ) (i : ℕ) → (ordered.get (slice_cmp nat_cmp) table.by_handle h ≡ Some i) ↔ (handle_at table.rows.items i ≡ Some h)
+  pub by_handle : (h : List ℕ) (i : ℕ) → (ordered.get (slice_cmp nat_cmp) table.by_handle h ≡ Some i) ↔
+      (handle_at table.rows.items i ≡ Some h)
   pub apart : (i : ℕ) (h : List ℕ) → handle_at table.rows.items i ≡ Some h → (h ≢ t.root) × (h ≢ staging)
-  pub covered : (q : List ℕ) (n : Node) → node_at t q ≡ Some n → (q ≡ t.root) ⊎ ((q ≡ staging) ⊎ ((i : ℕ) × (handle_at table.rows.items i ≡ Some q)))
+  pub covered : (q : List ℕ) (n : Node) → node_at t q ≡ Some n → (q ≡ t.root) ⊎
+      ((q ≡ staging) ⊎ ((i : ℕ) × (handle_at table.rows.items i ≡ Some q)))
   pub numbers : DifferInNumber t
 
 -- WHAT A ROW AND ITS NODE HOLD
@@ -115,7 +118,8 @@ pub record Stands (server : Option Tree) (table : ConfTable) (A : List Entry) : 
   pub has_tree : server ≡ Some tree
   pub placed : Placed tree table
   pub size : length table.rows.items ≡ length A
-  pub each : (i : ℕ) (r : ConfEntry) (e : Entry) → slice_get table.rows.items i ≡ Some r → slice_get A i ≡ Some e → RowIs tree table.rows.items A i r e
+  pub each : (i : ℕ) (r : ConfEntry) (e : Entry) → slice_get table.rows.items i ≡ Some r → slice_get A i ≡ Some e →
+      RowIs tree table.rows.items A i r e
 
 -- the limits are within those of the service
 abbrev pub AreWithin : Limits → Type 0

@@ -18,7 +18,8 @@ live_in rows o = option_and_then (λ r. if r.generation == o.generation then r.h
 
 -- the row of a handle that names a live object, and that object's node
 abbrev pub located : List ConfEntry → List ℕ → Option Located
-located rows h = option_and_then (λ o. option_map (λ x. record { index = o.index; handle = x }) (live_in rows o)) (oid_in h)
+located rows h = option_and_then (λ o. option_map (λ x. record { index = o.index; handle = x }) (live_in rows o))
+    (oid_in h)
 
 -- a row with its node's handle
 abbrev pub IsLive : List ConfEntry → Located → Type 0

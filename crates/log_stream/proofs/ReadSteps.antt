@@ -73,9 +73,6 @@ IfSome-always (Some xs) P h = h xs
 pub reads_wrong : {X Z : Type 0} {read : Reader Z} {view : X → Z} {left : Option (List ℕ)} → ((bytes : List ℕ) → read bytes ≡ None) → Reads read view left left (Err Wrong)
 reads_wrong {read = read} {left = left} h = record { taken = []; consumed = Consumes-none left; outcome = (h [], IfSome-always left (λ more. read more ≡ None) h) }
 
-pub reads_no_memory : {X Z : Type 0} {read : Reader Z} {view : X → Z} {left : Option (List ℕ)} → Reads read view left left (Err NoMemory)
-reads_no_memory {left = left} = record { taken = []; consumed = Consumes-none left; outcome = tt }
-
 -- ---- a buffer
 
 pub piece_ok : (buf : List ℕ) (n : ℕ) → length buf ≡ n → Spells (piece_at n) buf buf

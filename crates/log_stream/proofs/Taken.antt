@@ -33,9 +33,6 @@ pub record Filling (old left : Option (List ℕ)) (buf : List ℕ) (filled : ℕ
   pub consumed : Consumes old left (take filled buf)
   pub within : filled ≤ length buf
 
-pub filling_none : (left : Option (List ℕ)) (buf : List ℕ) → Filling left left buf 0
-filling_none left buf = record { consumed = Consumes-none left; within = omega arith }
-
 pub filling_more : (old mid new : Option (List ℕ)) (buf got : List ℕ) (filled count : ℕ) → Filling old mid buf filled → length got ≡ length buf - filled → count ≤ length got
     → Consumes mid new (take count got) → Filling old new (put_mid filled (length buf - filled) buf got) (filled + count)
 filling_more old mid new buf got filled count f len le q =

@@ -61,10 +61,6 @@ module _ (size offset : ℕ) (piece bytes : List ℕ) (is_size : size ≡ max (l
       ∙ ap (λ l. resized offset bytes ++ piece ++ l) back
       ∙ ap (λ l. overwritten offset l bytes) (sym (take_all (length piece) piece (omega arith)))
 
--- a size, and no piece
-pub resized_is : (size : ℕ) (bytes : List ℕ) → rewritten size 0 [] bytes ≡ resized size bytes
-resized_is size bytes = refl
-
 pub length-resized : (size : ℕ) (bytes : List ℕ) → length (resized size bytes) ≡ size
 length-resized size bytes =
     let both = length-append (take size bytes) (replicate (size - length bytes) 0) in

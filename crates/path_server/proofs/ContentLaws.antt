@@ -109,9 +109,6 @@ pub bytes-remove_other : (contents : Contents) (h q : List ℕ) → q ≢ h →
 unfolding bytes_under
 bytes-remove_other contents h q ne = ap (λ o. unwrap_or o []) (get-remove_other contents h q ne)
 
-pub added-dir : (h b : List ℕ) (contents : Contents) → IsAdded Dir h b contents contents
-added-dir h b contents = record { here = λ names. refl; others = λ q ne. refl }
-
 pub added-bytes : (kind : Kind) (h b c : List ℕ) (old new : Contents) → c ≡ b → new ≡ insert old h c →
     IsAdded kind h b old new
 added-bytes kind h b c old new same is = record {

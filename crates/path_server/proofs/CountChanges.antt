@@ -1,15 +1,14 @@
 -- Laws of what a tree counts, where a name is added or taken out and a node without names goes.
 use Rattle.std.proofs.Common.{◌≡◌, ◌≢◌, ℕ, ◌+◌, ◌*◌, ◌≤◌, arith, Bool, true, false, cond, List, [], ◌∷◌, Option, Some, None, is_some, ap, ◌∙◌}
 use Rattle.std.specs.Prelude.{bytes_eq, ◌==◌, if◌then◌else◌}
-use Rattle.std.specs.Option.{option_and_then}
 use Rattle.std.specs.Cmp.Lexicographic.{nat_list_cmp_total}
 use Rattle.std.specs.FinMap.{get, insert, remove, entries, len, len-insert}
 use Rattle.std.proofs.lemmas.Bool.Decides.{nat_tests}
 use Rattle.server_trait.specs.Sums.{sum_values, total}
-use Rattle.server_trait.specs.Tree.{Tree, Node, Names, Content, BytesOf, TextOf, NamesOf, ByBytes, node_at, names_in, target, is_dir_at, one_if, links, names_to, subdirs, used, used_by, named, unnamed, let_go, with_names, without_node}
-use Rattle.server_trait.proofs.CountLaws.{links-edited, subdirs-same}
+use Rattle.server_trait.specs.Tree.{Tree, Node, Names, Content, BytesOf, TextOf, NamesOf, ByBytes, node_at, target, is_dir_at, one_if, links, names_to, subdirs, used, used_by, named, unnamed, let_go, with_names, without_node}
+use Rattle.server_trait.proofs.CountLaws.{links-edited}
 use Rattle.server_trait.proofs.SumLaws.{total-ones}
-use Rattle.server_trait.proofs.TreeLaws.{get-remove_other, total-remove, used-edited, links-some}
+use Rattle.server_trait.proofs.TreeLaws.{total-remove, used-edited, links-some}
 
 -- HOW MANY
 
@@ -75,12 +74,6 @@ subdirs-remove t m name h is = total-remove (λ x. one_if (is_dir_at t x)) m nam
 
 abbrev has : Option Names → Bool
 has o = elim o as (λ _. Bool) [ None ↦ false | Some m ↦ true ]
-
--- a node to which none of the names leads has gone
-pub subdirs-without_node : (t : Tree) (h : List ℕ) (m : Names) → ((name : List ℕ) → get m name ≢ Some h) →
-    subdirs (without_node t h) m ≡ subdirs t m
-subdirs-without_node t h m none = subdirs-same (without_node t h) t m (λ name x is.
-    ap (λ o. has (option_and_then (λ (n : Node). names_in n.content) o)) (get-remove_other t.nodes h x (λ e. none name (is ∙ ap Some e))))
 
 -- BYTES
 

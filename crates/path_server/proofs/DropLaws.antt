@@ -9,7 +9,7 @@ use Rattle.nfs2_types.specs.declared.fattr.Kind.TheVariants.{Dir}
 use Rattle.server_trait.specs.Tree.{Tree, Names, ByBytes, NamesOf, is_dir_at, one_if, used, links, subdirs, unnamed, let_go}
 use Rattle.server_trait.specs.declared.server.ServerLimits.{ServerLimits}
 use Rattle.server_trait.proofs.CountLaws.{subdirs-same}
-use Rattle.server_trait.proofs.TreeLaws.{some_none, some_same, bytes_or_not, links-some, get-remove_same, get-remove_other}
+use Rattle.server_trait.proofs.TreeLaws.{some_none, some_same, bytes_or_not, get-remove_same, get-remove_other}
 use Rattle.path_store.specs.Stored.{Paths, Stored, Drops, names_of}
 use Rattle.path_server.specs.Bytes.{bytes_under}
 use Rattle.path_server.specs.Kept.{Kept, kept_as, the_tree}
@@ -24,7 +24,6 @@ use Rattle.path_server.proofs.NamedLaws.{IsDirNode, leaf_is_no_dir, no_path}
 use Rattle.path_server.proofs.NodeLaws.{node_at-kept, node_here, kind_at, is_dir_kind, is_dir_at-kind, same_dirs}
 use Rattle.path_server.proofs.Recounted as recount
 use Rattle.path_server.proofs.Serials.{kept_fits}
-use Rattle.path_server.proofs.SoundLaws.{target_is}
 
 -- The node with its counts after a name went that led to a node of this kind: `here` where it is the directory that had
 -- the name, `there` where it is the node.
@@ -78,13 +77,6 @@ module _ (limits : ServerLimits) (next bytes : ℕ) (k : Kept) (sound : IsSound 
       let here = is_dir_here in
       let count = (sound.counted dir p is).subdirs in
       omega (arith, less, here, count)
-
-  -- and the node too
-  pub some_link : 1 ≤ x.links
-  some_link =
-      let some = links-some now h dir name (target_is limits next bytes k sound dir p is is_directory name ∙ leads) in
-      let count = (sound.counted h x at_h).links in
-      omega (arith, some, count)
 
   module _ (nodes' : ByBytes PathNode) (are : (q : List ℕ) → get nodes' q ≡ option_map (less_if x.kind (bytes_eq dir q)
       (bytes_eq h q)) (get k.nodes q)) where

@@ -11,7 +11,6 @@ use Rattle.std.specs.BTreeMap.{insert_entry}
 use Rattle.std.specs.Map.{lookup}
 use Rattle.std.specs.FinMap.{FinMap, IsAntisymmetric, find, put, get, insert, empty, from_entries, same_map, get-from_entries, get-insert, slice_cmp-IsAntisymmetric, nat_cmp-IsAntisymmetric}
 use Rattle.std.specs.FinMap.Entries.{by_order, find-put}
-use Rattle.server_trait.proofs.SoftLaws.{some_of}
 
 pub bytes_exact : IsAntisymmetric (slice_cmp nat_cmp)
 bytes_exact = slice_cmp-IsAntisymmetric nat_cmp-IsAntisymmetric
@@ -32,20 +31,6 @@ module _ {X : Type 0} where
   pub get-rows : (es : List (List ℕ × X)) (q : List ℕ) →
       get (from_entries {R = slice_cmp nat_cmp} es) q ≡ lookup (λ k. is_eq (slice_cmp nat_cmp q k)) es
   get-rows es q = get-from_entries nat_list_cmp_total es q ∙ find-lookup es q
-
-  pub get-rows_none : (es : List (List ℕ × X)) (q : List ℕ) →
-      is_some (lookup (λ k. is_eq (slice_cmp nat_cmp q k)) es) ≡ false →
-      get (from_entries {R = slice_cmp nat_cmp} es) q ≡ None
-  get-rows_none es q is = get-rows es q ∙ none_of (lookup (λ k. is_eq (slice_cmp nat_cmp q k)) es) is
-
-  pub get-rows_some : (es : List (List ℕ × X)) (q : List ℕ) →
-      is_some (lookup (λ k. is_eq (slice_cmp nat_cmp q k)) es) ≡ true →
-      (x : X) × (get (from_entries {R = slice_cmp nat_cmp} es) q ≡ Some x)
-  get-rows_some es q is = let x = some_of (lookup (λ k. is_eq (slice_cmp nat_cmp q k)) es) is in (
-    x.0,
-    get-rows es q
-        ∙ x.1,
-  )
 
   put-row : (k : List ℕ) (v : X) (es : List (List ℕ × X)) →
       insert_entry (slice_cmp nat_cmp) es k v ≡ put (slice_cmp nat_cmp) k v es

@@ -1,5 +1,5 @@
 -- Where a name can be added, taken out or moved: then no error applies but soft ones.
-use Rattle.std.proofs.Common.{◌⊎◌, inl, inr, ◌≡◌, ◌≢◌, ℕ, List, Some, None, IsSome, IsSomeAnd, sym, ap, ◌∙◌}
+use Rattle.std.proofs.Common.{◌⊎◌, inl, inr, ◌≡◌, ◌≢◌, ℕ, List, Some, None, sym, ◌∙◌}
 use Rattle.std.specs.FinMap.{get, empty}
 use Rattle.server_trait.specs.Tree.{Tree, Node, Names, node_at, names_in, names_at, target}
 use Rattle.server_trait.specs.Step.{OnlySoft, IsStale, IsNo, LacksName, HasNames, IsAtOrBelow}

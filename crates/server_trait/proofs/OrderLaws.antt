@@ -1,5 +1,5 @@
 -- Trees that look alike are one: a name that is added and another that is taken out, in either order.
-use Rattle.std.proofs.Common.{◌≡◌, ◌≢◌, ◌⊎◌, inl, inr, ℕ, List, Option, Some, None, refl, sym, ap, ◌∙◌, subst}
+use Rattle.std.proofs.Common.{◌≡◌, ◌≢◌, inl, inr, ℕ, List, Some, refl, sym, ap, ◌∙◌, subst}
 use Rattle.std.specs.FinMap.{get, insert, remove}
 use Rattle.server_trait.specs.Tree.{Tree, Node, Names, Content, BytesOf, TextOf, NamesOf, node_at, edited, with_names, named, unnamed}
 use Rattle.server_trait.proofs.TreeLaws.{same_answers, bytes_or_not, get-insert_same, get-insert_other, get-remove_same, get-remove_other, root-edited, node_at-edited_same, node_at-edited_other}

@@ -1,10 +1,10 @@
 -- Where a call can do its work: then no error applies but soft ones. A server cites this at Ok, and a caller at Err.
-use Rattle.std.proofs.Common.{true, false, ◌≡◌, ℕ, List, Option, Some, None, IsSome, IsSomeAnd, Ok, Err, refl, sym, ap, ◌∙◌}
+use Rattle.std.proofs.Common.{true, false, ◌≡◌, ℕ, List, Option, Some, None, IsSome, Ok, Err, refl, sym, ap, ◌∙◌}
 use Rattle.std.specs.Option.{option_and_then}
 use Rattle.std.specs.FinMap.{get, insert}
-use Rattle.server_trait.specs.Tree.{Tree, Server, named, edited, with_node, with_names, with_attr, new_node, Node, Names, Content, node_at, bytes_in, text_in, names_in, bytes_at, text_at, names_at, target}
+use Rattle.server_trait.specs.Tree.{Tree, named, with_node, with_names, new_node, Node, Names, Content, node_at, bytes_in, text_in, names_in, bytes_at, text_at, names_at, target}
 use Rattle.server_trait.specs.Step.{OnlySoft, Outcome, IsBroken, IsStale, IsNo, LacksName}
-use Rattle.server_trait.specs.Calls.{NodeErr, Made, Make, SetAttr, ContentErr, WriteErr, SetSizeErr, DirErr, LookupErr, MakeErr}
+use Rattle.server_trait.specs.Calls.{NodeErr, Made, ContentErr, WriteErr, SetSizeErr, DirErr, LookupErr, MakeErr}
 use Rattle.server_trait.proofs.TreeLaws.{node_at-edited_other, get-insert_same, some_and, some_none, some_same, and_then_some}
 use Rattle.server_trait.specs.declared.server.SrvErr.{SrvErr}
 use Rattle.server_trait.specs.declared.server.SrvErr.TheVariants.{Stale, NoEnt, Exists, NotDir, WrongKind, Refused, Full, Fault, NoMemory}
@@ -96,13 +96,3 @@ made_node t dir name content h new m l =
     let d = and_then_some (λ (n : Node). names_in n.content) (node_at t dir) k.0 k.1 in
     node_at-edited_other (with_node t h (new_node m.number content)) dir (with_names (λ k. insert k name h)) h (λ e. some_none d.1 (ap (node_at t) (sym e) ∙ m.new_handle))
     ∙ get-insert_same t.nodes h (new_node m.number content)
-
--- attributes of a node that was just made: the call can only fail
-pub made_set : (s0 s1 s2 : Server) (dir name h : List ℕ) (content : Content) (bytes mode uid gid : ℕ) (e : SrvErr) → IsSomeAnd s0.tree (λ t. LacksName t dir name) →
-    Make content bytes s0 dir name (Ok h) s1 → SetAttr s1 h mode uid gid (Err e) s2 → IsBroken e
-made_set s0 s1 s2 dir name h content bytes mode uid gid e known made set =
-    let t = some_and s0.tree (λ t. LacksName t dir name) known in
-    let m : Made t.0 dir name content h s1.tree = (made.tree t.0 t.1).0 in
-    let t1 : Tree = named (with_node t.0 h (new_node m.number content)) dir name h in
-    failed {T = Unit {0}} (λ _ after. after ≡ Some (edited t1 h (with_attr mode uid gid))) (NodeErr h t1) t1 e s2.tree
-    (node_none t1 h (new_node m.number content) (made_node t.0 dir name content h s1.tree m t.2)) (set.tree t1 m.after)

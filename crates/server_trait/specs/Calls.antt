@@ -30,11 +30,13 @@ pub record IsAttr (t : Tree) (h : List ℕ) (a : NodeAttr) (n : Node) : Type 0 w
 
 -- `attr`
 abbrev pub Attr : Server → List ℕ → Result NodeAttr SrvErr → Server → Type 0
-Attr old h r new = Called (λ t. Outcome (λ a after. IsSomeAnd (node_at t h) (IsAttr t h a) × (after ≡ Some t)) (NodeErr h t) t) old r new
+Attr old h r new = Called (λ t. Outcome (λ a after. IsSomeAnd (node_at t h) (IsAttr t h a) × (after ≡ Some t))
+    (NodeErr h t) t) old r new
 
 -- `set_attr`
 abbrev pub SetAttr : Server → List ℕ → ℕ → ℕ → ℕ → Result Unit SrvErr → Server → Type 0
-SetAttr old h mode uid gid r new = Called (λ t. Outcome (λ _ after. after ≡ Some (edited t h (with_attr mode uid gid))) (NodeErr h t) t) old r new
+SetAttr old h mode uid gid r new =
+    Called (λ t. Outcome (λ _ after. after ≡ Some (edited t h (with_attr mode uid gid))) (NodeErr h t) t) old r new
 
 -- FILES AND LINKS
 
@@ -46,16 +48,20 @@ ContentErr view h t e = ⊥
 
 -- `read`: all bytes from the offset up to the count or the end
 abbrev pub Read : Server → List ℕ → ℕ → ℕ → Result (Vec ℕ Global) SrvErr → Server → Type 0
-Read old h offset count r new = Called (λ t. Outcome (λ v after. (option_map (λ b. take count (drop offset b)) (bytes_at t h) ≡ Some v.items) × (after ≡ Some t)) (ContentErr bytes_in h t) t) old r new
+Read old h offset count r new =
+    Called (λ t. Outcome (λ v after. (option_map (λ b. take count (drop offset b)) (bytes_at t h) ≡ Some v.items) ×
+    (after ≡ Some t)) (ContentErr bytes_in h t) t) old r new
 
 -- `read_link`: the text
 abbrev pub ReadLink : Server → List ℕ → Result (Vec ℕ Global) SrvErr → Server → Type 0
-ReadLink old h r new = Called (λ t. Outcome (λ v after. (text_at t h ≡ Some v.items) × (after ≡ Some t)) (ContentErr text_in h t) t) old r new
+ReadLink old h r new = Called (λ t. Outcome (λ v after. (text_at t h ≡ Some v.items) × (after ≡ Some t))
+    (ContentErr text_in h t) t) old r new
 
 -- the errors of a call that writes so many bytes at an offset
 abbrev pub WriteErr : ServerLimits → List ℕ → ℕ → ℕ → Tree → SrvErr → Type 0
 WriteErr limits h offset count t Refused = IsSomeAnd (bytes_at t h) (λ b. length b < offset)
-WriteErr limits h offset count t Full = IsSomeAnd (bytes_at t h) (λ b. NoRoom limits t 0 (length b) (max (length b) (offset + count)))
+WriteErr limits h offset count t Full =
+    IsSomeAnd (bytes_at t h) (λ b. NoRoom limits t 0 (length b) (max (length b) (offset + count)))
 WriteErr limits h offset count t e = ContentErr bytes_in h t e
 
 -- so many bytes of the piece stand at the offset, at least one
@@ -66,7 +72,8 @@ pub record Wrote (t : Tree) (h : List ℕ) (offset : ℕ) (piece : List ℕ) (co
 
 -- `write`
 abbrev pub Write : Server → List ℕ → ℕ → List ℕ → Result ℕ SrvErr → Server → Type 0
-Write old h offset piece r new = Called (λ t. Outcome (Wrote t h offset piece) (WriteErr old.limits h offset (length piece) t) t) old r new
+Write old h offset piece r new =
+    Called (λ t. Outcome (Wrote t h offset piece) (WriteErr old.limits h offset (length piece) t) t) old r new
 
 -- the errors of a call that gives a file a size
 abbrev pub SetSizeErr : ServerLimits → List ℕ → ℕ → Tree → SrvErr → Type 0
@@ -75,7 +82,9 @@ SetSizeErr limits h size t e = ContentErr bytes_in h t e
 
 -- `set_size`: the file is cut, or filled with zeros
 abbrev pub SetSize : Server → List ℕ → ℕ → Result Unit SrvErr → Server → Type 0
-SetSize old h size r new = Called (λ t. Outcome (λ _ after. after ≡ Some (edited t h (with_bytes (resized size)))) (SetSizeErr old.limits h size t) t) old r new
+SetSize old h size r new = Called
+    (λ t. Outcome (λ _ after. after ≡ Some (edited t h (with_bytes (resized size)))) (SetSizeErr old.limits h size t)
+    t) old r new
 
 -- NAMES
 
@@ -92,17 +101,21 @@ LookupErr dir name t e = DirErr dir t e
 
 -- `lookup`
 abbrev pub Lookup : Server → List ℕ → List ℕ → Result (List ℕ) SrvErr → Server → Type 0
-Lookup old dir name r new = Called (λ t. Outcome (λ h after. (target t dir name ≡ Some h) × (after ≡ Some t)) (LookupErr dir name t) t) old r new
+Lookup old dir name r new = Called
+    (λ t. Outcome (λ h after. (target t dir name ≡ Some h) × (after ≡ Some t)) (LookupErr dir name t) t) old r new
 
 -- each name of the directory stands in the list once, in any order
 pub record Lists (rows : List Listed) (names : Names) : Type 0 where
   pub sound : (k : ℕ) (row : Listed) → slice_get rows k ≡ Some row → get names row.name ≡ Some row.handle
-  pub complete : (name h : List ℕ) → get names name ≡ Some h → (k : ℕ) × (slice_get rows k ≡ Some (record { name = name; handle = h }))
+  pub complete : (name h : List ℕ) → get names name ≡ Some h → (k : ℕ) ×
+      (slice_get rows k ≡ Some (record { name = name; handle = h }))
   pub once : (j k : ℕ) (a b : Listed) → slice_get rows j ≡ Some a → slice_get rows k ≡ Some b → a.name ≡ b.name → j ≡ k
 
 -- `list`
 abbrev pub ListNames : Server → List ℕ → Result (Vec Listed Global) SrvErr → Server → Type 0
-ListNames old dir r new = Called (λ t. Outcome (λ rows after. IsSomeAnd (names_at t dir) (Lists rows.items) × (after ≡ Some t)) (DirErr dir t) t) old r new
+ListNames old dir r new = Called
+    (λ t. Outcome (λ rows after. IsSomeAnd (names_at t dir) (Lists rows.items) × (after ≡ Some t)) (DirErr dir t) t)
+    old r new
 
 -- NEW NAMES
 
@@ -125,7 +138,8 @@ pub record Made (t : Tree) (dir name : List ℕ) (content : Content) (h : List �
 
 -- a new node whose content has so many bytes
 abbrev pub Make : Content → ℕ → Server → List ℕ → List ℕ → Result (List ℕ) SrvErr → Server → Type 0
-Make content bytes old dir name r new = Called (λ t. Outcome (Made t dir name content) (MakeErr old.limits dir name bytes t) t) old r new
+Make content bytes old dir name r new =
+    Called (λ t. Outcome (Made t dir name content) (MakeErr old.limits dir name bytes t) t) old r new
 
 -- `create`: a file without bytes
 abbrev pub Create : Server → List ℕ → List ℕ → Result (List ℕ) SrvErr → Server → Type 0
@@ -154,7 +168,8 @@ LinkErr limits h dir name t e = ⊥
 
 -- `link`: the name leads to the node
 abbrev pub Link : Server → List ℕ → List ℕ → List ℕ → Result Unit SrvErr → Server → Type 0
-Link old h dir name r new = Called (λ t. Outcome (λ _ after. after ≡ Some (named t dir name h)) (LinkErr old.limits h dir name t) t) old r new
+Link old h dir name r new = Called
+    (λ t. Outcome (λ _ after. after ≡ Some (named t dir name h)) (LinkErr old.limits h dir name t) t) old r new
 
 -- NAMES THAT GO
 
@@ -195,7 +210,8 @@ pub record Replaces (P : List ℕ → List ℕ → Type 0) (t : Tree) (from name
 -- the errors of a call that moves a name: a directory replaces only an empty directory, and does not move below itself
 abbrev pub RenameErr : List ℕ → List ℕ → List ℕ → List ℕ → Tree → SrvErr → Type 0
 RenameErr from name to to_name t Stale = IsStale t from ⊎ IsStale t to
-RenameErr from name to to_name t NotDir = (IsNo names_in t from ⊎ IsNo names_in t to) ⊎ Replaces (λ h r. IsDir t h × IsNo names_in t r) t from name to to_name
+RenameErr from name to to_name t NotDir = (IsNo names_in t from ⊎ IsNo names_in t to) ⊎
+    Replaces (λ h r. IsDir t h × IsNo names_in t r) t from name to to_name
 RenameErr from name to to_name t NoEnt = LacksName t from name
 RenameErr from name to to_name t WrongKind = Replaces (λ h r. IsNo names_in t h × IsDir t r) t from name to to_name
 RenameErr from name to to_name t NotEmpty = Replaces (λ _ r. HasNames t r) t from name to to_name
@@ -213,7 +229,9 @@ renamed t from name to to_name h = elim (target t to to_name) [
 
 -- `rename`
 abbrev pub Rename : Server → List ℕ → List ℕ → List ℕ → List ℕ → Result Unit SrvErr → Server → Type 0
-Rename old from name to to_name r new = Called (λ t. Outcome (λ _ after. IsSomeAnd (target t from name) (λ h. after ≡ Some (renamed t from name to to_name h))) (RenameErr from name to to_name t) t) old r new
+Rename old from name to to_name r new =
+    Called (λ t. Outcome (λ _ after. IsSomeAnd (target t from name)
+    (λ h. after ≡ Some (renamed t from name to to_name h))) (RenameErr from name to to_name t) t) old r new
 
 -- THE WHOLE SERVER
 

@@ -34,14 +34,16 @@ OnlySoft applies = (e : SrvErr) → applies e → IsSoft e
 
 -- What stands after an answer. After Ok the work is `done`, and no error applied but soft ones.
 -- After Fault and NoMemory there is no tree. Any other error applied, and left the tree as it was.
-abbrev pub Outcome : {T : Type 0} → (T → Option Tree → Type 0) → (SrvErr → Type 0) → Tree → Result T SrvErr → Option Tree → Type 0
+abbrev pub Outcome : {T : Type 0} → (T → Option Tree → Type 0) → (SrvErr → Type 0) → Tree → Result T SrvErr →
+    Option Tree → Type 0
 Outcome done applies t (Ok x) new = done x new × OnlySoft applies
 Outcome done applies t (Err Fault) new = new ≡ None
 Outcome done applies t (Err NoMemory) new = new ≡ None
 Outcome done applies t (Err e) new = applies e × (new ≡ Some t)
 
 -- a call of a server that has a tree
-pub record Called {T : Type 0} (outcome : Tree → Result T SrvErr → Option Tree → Type 0) (old : Server) (r : Result T SrvErr) (new : Server) : Type 0 where
+pub record Called {T : Type 0} (outcome : Tree → Result T SrvErr → Option Tree → Type 0) (old : Server)
+    (r : Result T SrvErr) (new : Server) : Type 0 where
   pub tree : (t : Tree) → old.tree ≡ Some t → outcome t r new.tree
   pub limits : new.limits ≡ old.limits
   pub faults : Counts old.faults new.faults r

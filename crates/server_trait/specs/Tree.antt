@@ -145,11 +145,15 @@ with_attr mode uid gid n = record n { mode = mode; uid = uid; gid = gid }
 
 -- a file with other bytes; what is no file stays
 abbrev pub with_bytes : (List ℕ → List ℕ) → Node → Node
-with_bytes f n = record n { content = elim n.content [ BytesOf b ↦ BytesOf (f b) | TextOf x ↦ TextOf x | NamesOf m ↦ NamesOf m ] }
+with_bytes f n = record n {
+  content = elim n.content [ BytesOf b ↦ BytesOf (f b) | TextOf x ↦ TextOf x | NamesOf m ↦ NamesOf m ];
+}
 
 -- a directory with other names; what is no directory stays
 abbrev pub with_names : (Names → Names) → Node → Node
-with_names f n = record n { content = elim n.content [ BytesOf b ↦ BytesOf b | TextOf x ↦ TextOf x | NamesOf m ↦ NamesOf (f m) ] }
+with_names f n = record n {
+  content = elim n.content [ BytesOf b ↦ BytesOf b | TextOf x ↦ TextOf x | NamesOf m ↦ NamesOf (f m) ];
+}
 
 -- the tree with a node under a handle, and without
 abbrev pub with_node : Tree → List ℕ → Node → Tree

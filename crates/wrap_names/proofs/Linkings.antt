@@ -12,7 +12,7 @@ use Rattle.abs_model.specs.declared.entry.NameRow.{NameRow}
 use Rattle.abs_model.specs.declared.entry.Entry.{Entry}
 use Rattle.abs_model.specs.Objects.{is_dir, names_of, attr_of, row_of, placed, with_attr, changed_at}
 use Rattle.abs_model.specs.Array.{entry_at, changed}
-use Rattle.abs_model.specs.Machine.{to_be, row_to}
+use Rattle.abs_model.specs.Machine.{row_to}
 use Rattle.abs_model.specs.Machine as machine
 use Rattle.abs_model.proofs.Facts.{no_row}
 use Rattle.conf_map.specs.Moves.{IsAt, AddsName}

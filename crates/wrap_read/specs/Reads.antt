@@ -29,7 +29,8 @@ is_read_call _ = false
 
 -- the row of a row's parent, and its node's handle
 abbrev pub parent_in : List ConfEntry → ℕ → Option Located
-parent_in rows i = option_and_then (λ (r : ConfEntry). option_map (λ h. record { index = r.parent; handle = h }) (handle_at rows r.parent)) (slice_get rows i)
+parent_in rows i = option_and_then (λ (r : ConfEntry). option_map (λ h. record { index = r.parent; handle = h })
+    (handle_at rows r.parent)) (slice_get rows i)
 
 -- no name of the directory, and neither "." nor ".."
 abbrev pub is_missing : List Entry → ℕ → List ℕ → Bool
@@ -38,7 +39,8 @@ is_missing A d name = not (is_dot name) && not (has_name A d name)
 -- a name of a directory leads to a live object; "." to the directory, and ".." to its parent
 pub record IsStep (A : List Entry) (rows : List ConfEntry) (d : ℕ) (name : List ℕ) (at : Located) : Type 0 where
   pub present : is_missing A d name ≡ false
-  pub index : (if bytes_eq name name_dot then d else if bytes_eq name name_dots then parent A d else target A d name) ≡ at.index
+  pub index : (if bytes_eq name name_dot then d else if bytes_eq name name_dots then parent A d else target A d name)
+      ≡ at.index
   pub live : IsLive rows at
 
 -- where a name of a directory leads, if it does

@@ -106,11 +106,6 @@ module _ (t : Tree) (h b : List ℕ) (is : bytes_at t h ≡ Some b) where
       ∙ ap (λ b. let new : Node = record n { content = BytesOf b } in new) same
       ∙ sym (with_bytes_is k n b content))
 
-  -- bytes that are changed alike
-  pub bytes_alike : (g k : List ℕ → List ℕ) → g b ≡ k b → edited t h (with_bytes g) ≡ edited t h (with_bytes k)
-  bytes_alike g k same = ap (λ t. edited t h (with_bytes g)) (sym (bytes_same (λ b. b) refl))
-      ∙ bytes_twice (λ b. b) g k same
-
   pub used_file : (g : List ℕ → List ℕ) → used (edited t h (with_bytes g)) + length b ≡ used t + length (g b)
   used_file g =
       let e = used-edited t h (with_bytes g) n at in

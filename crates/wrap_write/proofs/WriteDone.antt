@@ -8,7 +8,7 @@ use Rattle.nfs2_types.specs.declared.Stat.{Stat}
 use Rattle.nfs2_types.specs.declared.Fattr.{Fattr}
 use Rattle.nfs2_types.specs.declared.NfsResult.TheVariants as results
 use Rattle.nfs2_types.specs.Times.{is_time}
-use Rattle.server_trait.specs.Tree.{Tree, Server, Node, node_at, bytes_in, bytes_at, edited}
+use Rattle.server_trait.specs.Tree.{Tree, Server, edited}
 use Rattle.server_trait.specs.Tree as tree
 use Rattle.server_trait.specs.declared.bench.ConfEntry.{ConfEntry}
 use Rattle.server_trait.specs.declared.bench.ConfTable.{ConfTable}
@@ -16,7 +16,7 @@ use Rattle.server_trait.specs.declared.server.ServerLimits.{ServerLimits}
 use Rattle.abs_model.specs.declared.entry.Entry.{Entry}
 use Rattle.abs_model.specs.Objects.{is_file, bytes_of, written}
 use Rattle.abs_model.specs.Array.{entry_at, used, at, fattr}
-use Rattle.abs_model.specs.Machine.{file_limit, no_room, array_after, result_of, told}
+use Rattle.abs_model.specs.Machine.{array_after, result_of, told}
 use Rattle.abs_model.specs.Machine as machine
 use Rattle.abs_model.proofs.Facts.{AllFalse, none_holds, file_is}
 use Rattle.abs_model.proofs.Named.{at-live}
