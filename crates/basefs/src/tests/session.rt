@@ -65,7 +65,7 @@ impl Session {
         let n = self.calls;
         let call = log_of(alloc, &[&[n, 0, 2], head, &[0, 0, 0, 0]])?;
         let args = log_of(alloc, args)?;
-        let len = (call.len() as u32).saturating_add(args.len() as u32);
+        let len = u32::try_from(call.len().saturating_add(args.len())).unwrap_or(!0);
         self.log
             .extend_from_slice(&bytes_of(alloc, &[1, 0, n, 0, len])?)?;
         self.log.extend_from_slice(&call)?;
