@@ -1,0 +1,1 @@
+"""Logs of BASEFS in words: what tools/log is made of."""
