@@ -104,6 +104,7 @@ class Composer:
         words.finish(DEFAULT_OPTIONS)
         self.defaults.update({key: token for key, token in given.items() if token})
         self.credential(Words(""))
+        self.number_of(Words(""), "client", 0)
 
     def option(self, words, key):
         """An option of this line, or its default, or None."""
