@@ -3,6 +3,7 @@ use Rattle.std.specs.Prelude.{ℕ, List, Bool, true, ◌&&◌, nat_lt, nat_le, l
 use Rattle.nfs2_types.specs.declared.args.SetTime.{SetTime}
 use Rattle.nfs2_types.specs.declared.args.Sattr.{Sattr}
 use Rattle.nfs2_types.specs.declared.args.Args.{Args}
+use Rattle.nfs2_types.specs.Sizes.{max_name, max_path, max_data}
 use Rattle.nfs2_types.specs.Times.{is_time}
 
 -- a call by its procedure
@@ -59,23 +60,24 @@ set_time_fits (SetTime.At t) = is_time t
 abbrev pub sattr_fits : Sattr → Bool
 sattr_fits s = nat_lt (unwrap_or s.mode 0) 4096 && set_time_fits s.atime && set_time_fits s.mtime
 
--- names of at most 255 bytes, texts of at most 1,024, and bytes to write of at most 8,192 (RFC 1094, 2.3.7, 2.3.8, 2.2.9)
+-- names, texts and bytes to write of at most their sizes (RFC 1094, 2.3.7, 2.3.8, 2.2.9)
 abbrev pub call_fits : Call → Bool
 call_fits null = true
 call_fits root = true
 call_fits write_cache = true
 call_fits (get_attr node) = true
 call_fits (set_attr node sattr) = sattr_fits sattr
-call_fits (lookup dir name) = nat_le (length name) 255
+call_fits (lookup dir name) = nat_le (length name) max_name
 call_fits (read_link node) = true
 call_fits (read file offset count) = true
-call_fits (write file offset bytes) = nat_le (length bytes) 8192
-call_fits (create dir name sattr) = nat_le (length name) 255 && sattr_fits sattr
-call_fits (remove dir name) = nat_le (length name) 255
-call_fits (rename from name to to_name) = nat_le (length name) 255 && nat_le (length to_name) 255
-call_fits (link node dir name) = nat_le (length name) 255
-call_fits (symlink dir name text sattr) = nat_le (length name) 255 && nat_le (length text) 1024 && sattr_fits sattr
-call_fits (make_dir dir name sattr) = nat_le (length name) 255 && sattr_fits sattr
-call_fits (remove_dir dir name) = nat_le (length name) 255
+call_fits (write file offset bytes) = nat_le (length bytes) max_data
+call_fits (create dir name sattr) = nat_le (length name) max_name && sattr_fits sattr
+call_fits (remove dir name) = nat_le (length name) max_name
+call_fits (rename from name to to_name) = nat_le (length name) max_name && nat_le (length to_name) max_name
+call_fits (link node dir name) = nat_le (length name) max_name
+call_fits (symlink dir name text sattr) =
+    nat_le (length name) max_name && nat_le (length text) max_path && sattr_fits sattr
+call_fits (make_dir dir name sattr) = nat_le (length name) max_name && sattr_fits sattr
+call_fits (remove_dir dir name) = nat_le (length name) max_name
 call_fits (read_dir dir cookie count) = true
 call_fits (stat_fs node) = true

@@ -3,4 +3,5 @@ pub mod Call
 pub mod Counts
 pub mod Handle
 pub mod Names
+pub mod Sizes
 pub mod Times

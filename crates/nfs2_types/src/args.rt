@@ -27,7 +27,7 @@ pub struct Sattr {
 }
 
 /// The arguments of a call by procedure (RFC 1094, 2.2). Names, texts and bytes are slices of the call.
-#[derive(Clone, Copy, Debug)]
+#[derive(Clone, Copy, Debug, PartialEq, Eq)]
 pub enum Args<'a> {
     Null,
     Root,

@@ -4,7 +4,7 @@ ghost use Rattle.std.proofs.Common.{rules};
 ghost use Rattle.std.specs.Cmp.Rules.{comparing};
 ghost use Rattle.std.specs.Prelude.{◌≡◌, ◌==◌, ◌++◌, List, ℕ, length, IfOk, OnOk, bytes_eq};
 
-use std::alloc::{AllocError, Global};
+use std::alloc::{AllocError, AllocFailed, Global};
 use std::marker::Model;
 
 /// Want of memory.
@@ -13,6 +13,16 @@ pub struct NoMemory;
 
 impl From<AllocError> for NoMemory {
     fn from(_: AllocError) -> NoMemory {
+        NoMemory
+    }
+}
+
+impl<T: Drop> From<AllocFailed<T>> for NoMemory {
+    ghost use Rattle.nfs2_types.specs.declared.blob.NoMemory.{NoMemory};
+
+    ghost from_gives = { λ _ (e : NoMemory). e ≡ record {} };
+
+    fn from(_: AllocFailed<T>) -> NoMemory {
         NoMemory
     }
 }
@@ -93,4 +103,8 @@ impl PartialEq for Blob {
     fn eq(&self, other: &Blob) -> bool {
         self.bytes.as_slice() == other.bytes.as_slice()
     }
+}
+
+impl Eq for Blob {
+    ghost laws = { Prim.search (comparing, rules) };
 }

@@ -1,7 +1,11 @@
 //! On whose behalf a call is made.
 
-ghost use Rattle.std.specs.Prelude.{List, ℕ, take, ◌≤◌, ◌<◌, ◌≡◌, ◌↔◌, ◌++◌, ◌∷◌, [], length, IsTrue};
+ghost use Rattle.std.proofs.Common.{rules};
+ghost use Rattle.std.specs.Cmp.Rules.{comparing};
+ghost use Rattle.std.specs.Prelude.{List, ℕ, take, [], ◌∷◌, ◌++◌, length, IsTrue, bytes_eq};
+ghost use Rattle.std.specs.Prelude.{◌≤◌, ◌<◌, ◌≡◌, ◌↔◌};
 
+use std::alloc::AllocError;
 use std::marker::Model;
 
 /// At most sixteen group numbers, which contracts see as their list (RFC 5531, appendix A).
@@ -62,8 +66,33 @@ impl Blob16 {
     }
 }
 
+impl Clone for Blob16 {
+    ghost is_clone = { λ g t. t ≡ g };
+
+    fn clone(&self) -> Result<Blob16, AllocError> {
+        Ok(Blob16 {
+            words: self.words,
+            len: self.len,
+        })
+    }
+}
+
+impl PartialEq for Blob16 {
+    ghost eq = { bytes_eq };
+
+    ghost laws = { Prim.search (comparing, rules) };
+
+    fn eq(&self, other: &Blob16) -> bool {
+        self.as_slice() == other.as_slice()
+    }
+}
+
+impl Eq for Blob16 {
+    ghost laws = { Prim.search (comparing, rules) };
+}
+
 /// The caller of a call: a user, its group, and further groups.
-#[derive(Debug, Drop)]
+#[derive(Clone, Debug, Drop, PartialEq, Eq)]
 pub struct Cred {
     pub uid: u32,
     pub gid: u32,

@@ -6,10 +6,11 @@ use crate::blob::Blob;
 use crate::fattr::Fattr;
 use crate::handle::Handle;
 use crate::stat::Stat;
+use std::alloc::AllocError;
 use std::marker::Model;
 
 /// One entry of a directory's list (RFC 1094, 2.2.17).
-#[derive(Debug, Drop, PartialEq)]
+#[derive(Clone, Debug, Drop, PartialEq, Eq)]
 pub struct ListEntry {
     pub fileid: u32,
     pub name: Blob,
@@ -48,7 +49,7 @@ impl Listing {
 }
 
 /// The result of a call, by its shape (RFC 1094, 2.2).
-#[derive(Debug, Drop, PartialEq)]
+#[derive(Clone, Debug, Drop, PartialEq, Eq)]
 pub enum NfsResult {
     /// NULL, ROOT and WRITECACHE have no result.
     Nothing,
@@ -85,6 +86,16 @@ pub enum NfsResult {
     },
 }
 
+impl Clone for Listing {
+    ghost is_clone = { λ s t. t ≡ s };
+
+    fn clone(&self) -> Result<Listing, AllocError> {
+        Ok(Listing {
+            entries: self.entries.clone()?,
+        })
+    }
+}
+
 impl PartialEq for Listing {
     ghost use Rattle.std.specs.Prelude.{nat_eq, bytes_eq};
     ghost use Rattle.std.specs.Cmp.{partial_equiv_from_equiv};
@@ -93,11 +104,25 @@ impl PartialEq for Listing {
     ghost use Rattle.std.specs.Cmp.Lexicographic.{pointwise};
     ghost use Rattle.nfs2_types.specs.declared.results.ListEntry.{ListEntry};
 
-    ghost eq = { pointwise (eq_of_both (on (λ e. e.fileid) nat_eq) (eq_of_both (on (λ e. e.name) bytes_eq) (on (λ e. e.cookie) nat_eq))) };
+    ghost eq = { pointwise (eq_of_both (on (λ e. e.fileid) nat_eq) (eq_of_both (on (λ e. e.name) bytes_eq)
+        (on (λ e. e.cookie) nat_eq))) };
 
-    ghost laws = { partial_equiv_from_equiv (lists_equiv (and_equiv (on_equiv (λ (e : ListEntry). e.fileid) nat_eq_equiv) (and_equiv (on_equiv (λ (e : ListEntry). e.name) nat_list_eq_equiv) (on_equiv (λ (e : ListEntry). e.cookie) nat_eq_equiv)))) };
+    ghost laws = { partial_equiv_from_equiv (lists_equiv (and_equiv
+        (on_equiv (λ (e : ListEntry). e.fileid) nat_eq_equiv) (and_equiv
+        (on_equiv (λ (e : ListEntry). e.name) nat_list_eq_equiv)
+        (on_equiv (λ (e : ListEntry). e.cookie) nat_eq_equiv)))) };
 
     fn eq(&self, other: &Listing) -> bool {
         self.entries.as_slice() == other.entries.as_slice()
     }
+}
+
+impl Eq for Listing {
+    ghost use Rattle.std.proofs.lemmas.Cmp.{lists_equiv, and_equiv, on_equiv, nat_eq_equiv, nat_list_eq_equiv};
+    ghost use Rattle.nfs2_types.specs.declared.results.ListEntry.{ListEntry};
+
+    ghost laws = { lists_equiv (and_equiv
+        (on_equiv (λ (e : ListEntry). e.fileid) nat_eq_equiv) (and_equiv
+        (on_equiv (λ (e : ListEntry). e.name) nat_list_eq_equiv)
+        (on_equiv (λ (e : ListEntry). e.cookie) nat_eq_equiv))) };
 }

@@ -3,7 +3,7 @@
 use crate::blob::Blob;
 
 /// A replica's word on a request: no reply, or the bytes of one.
-#[derive(Debug, Drop, PartialEq)]
+#[derive(Clone, Debug, Drop, PartialEq, Eq)]
 pub enum Word {
     Silent,
     Reply(Blob),
