@@ -13,12 +13,9 @@ use crate::nfs::nfs_word;
 use crate::reply::{refuse, written};
 use conf_map::Modify;
 use nfs2_types::{Limits, Time, Word};
-use rpc_core::{CallHead, read_call};
+use rpc_core::{CallHead, NFS, read_call};
 use server_trait::{ConfTable, Srv, WrapErr};
 use std::alloc::Global;
-
-/// The program number of NFS (RFC 1094, 2.2); what is served besides is MOUNT.
-const NFS: u32 = 100003;
 
 /// The reply to the bytes of a request, or silence. It asks the server of this table, tells `saver` of each object before
 /// it changes, and leaves server and table standing for nothing after an error. `Down`: the server failed.

@@ -33,8 +33,8 @@ fn root_of(table: &ConfTable) -> Handle
 }
 
 /// The reply with the result of a call.
-fn accept(alloc: Global, xid: u32, args: &MountArgs, root: &Handle) -> Result<Word, NoMemory>
-    ensures { IfOk result (λ word. word ≡ Reply (success_text xid ++ mount_text (call_of args.now) root.now)) }
+fn accept(alloc: Global, xid: u32, args: &MountArgs, root: Handle) -> Result<Word, NoMemory>
+    ensures { IfOk result (λ word. word ≡ Reply (success_text xid ++ mount_text (call_of args.now) root)) }
 {
     let mut reply = Writer::new(alloc);
     begin_success(&mut reply, xid)?;
@@ -57,6 +57,6 @@ pub fn mount_word(
 {
     match read_mount(proc, args) {
         Err(_) => refuse(alloc, xid, &Refusal::GarbageArgs),
-        Ok(args) => accept(alloc, xid, &args, &root_of(table)),
+        Ok(args) => accept(alloc, xid, &args, root_of(table)),
     }
 }

@@ -1,12 +1,13 @@
 -- The arguments of each procedure of MOUNT (RFC 1094, A.5) as formats of items.
 use Rattle.std.specs.Prelude.{ℕ, ◌==◌, if◌then◌else◌}
+use Rattle.nfs2_types.specs.Sizes.{max_path}
 use Rattle.xdr_core.specs.Items.{Item, any_opaque}
 use Rattle.xdr_core.specs.Grammar.{Grammar, gives, item}
 use Rattle.mount1_proto.specs.Calls.{MountCall, null, mnt, dump, umnt, umnt_all, export}
 
--- dirpath (RFC 1094, A.4.3)
+-- dirpath; MNTPATHLEN is the MAXPATHLEN of NFS (RFC 1094, A.4.3 and A.3)
 abbrev pub path : Item
-path = any_opaque 1024
+path = any_opaque max_path
 
 -- MNT: dirpath (RFC 1094, A.5.2)
 unfoldable pub mnt_form : Grammar MountCall

@@ -2,13 +2,12 @@
 #![tactic(auto)]
 
 mod args;
-mod laws;
+pub mod laws;
 mod reading;
 #[cfg(test)]
 mod tests;
 mod writing;
 
 pub use args::MountArgs;
-pub use laws::no_prefix;
 pub use reading::read_mount;
 pub use writing::write_mount;

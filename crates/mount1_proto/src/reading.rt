@@ -6,10 +6,8 @@ ghost use Rattle.mount1_proto.specs.Calls.{call_of, number_of};
 ghost use Rattle.mount1_proto.specs.Forms.{mnt_form, umnt_form, mount_form};
 
 use crate::args::MountArgs;
+use nfs2_types::MAX_PATH;
 use xdr_core::{Reader, XdrErr};
-
-/// The bytes that a path may have: MNTPATHLEN (RFC 1094, A.3).
-const MAX_PATH: u32 = 1024;
 
 /// MNT (RFC 1094, A.5.2).
 #[tactic(auto, unfolding(crate::specs::Forms::mnt_form))]

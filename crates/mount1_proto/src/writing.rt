@@ -1,15 +1,16 @@
 //! Writes the results of calls.
 
-ghost use Rattle.std.specs.Prelude.{◌≡◌, ◌++◌, OnOk};
+ghost use Rattle.std.specs.Prelude.{◌≡◌, ◌++◌, OnOk, OnErr, take, length};
 ghost use Rattle.mount1_proto.specs.Calls.{call_of};
-ghost use Rattle.mount1_proto.specs.Results.{is_exported as is_exported_of, mnt_text, exports_text, mount_text};
+ghost use Rattle.mount1_proto.specs.Results.{is_exported as is_exported_of};
+ghost use Rattle.mount1_proto.specs.Results.{mnt_text, exports_text, mount_text};
 
 use crate::args::MountArgs;
 use nfs2_types::{Handle, NoMemory};
 use xdr_core::Writer;
 
-/// The status of a path that is not there: the ENOENT of UNIX (RFC 1094, A.4.2).
-const NOENT: u32 = 2;
+/// The status of a path that is not there, a number of UNIX (RFC 1094, A.4.2).
+const ENOENT: u32 = 2;
 
 /// Whether a path leads to the root.
 fn is_exported(path: &[u8]) -> bool
@@ -19,19 +20,21 @@ fn is_exported(path: &[u8]) -> bool
 }
 
 /// MNT's result, an fhstatus (RFC 1094, A.4.2).
-fn put_mnt(w: &mut Writer, path: &[u8], root: &Handle) -> Result<(), NoMemory>
-    ensures { OnOk result (w.new ≡ w.old ++ mnt_text path.now root.now) }
+fn put_mnt(w: &mut Writer, path: &[u8], root: Handle) -> Result<(), NoMemory>
+    ensures text { OnOk result (w.new ≡ w.old ++ mnt_text path.now root) }
+    ensures kept { OnErr result (take (length w.old) w.new ≡ w.old) }
 {
     if !is_exported(path) {
-        return w.word(NOENT);
+        return w.word(ENOENT);
     }
     w.word(0)?;
-    w.fixed(root)
+    w.fixed(&root)
 }
 
 /// EXPORT's result: one export, which every group may mount (RFC 1094, A.5.6).
 fn put_exports(w: &mut Writer) -> Result<(), NoMemory>
-    ensures { OnOk result (w.new ≡ w.old ++ exports_text) }
+    ensures text { OnOk result (w.new ≡ w.old ++ exports_text) }
+    ensures kept { OnErr result (take (length w.old) w.new ≡ w.old) }
 {
     w.boolean(true)?;
     w.opaque(b"/export")?;
@@ -40,8 +43,9 @@ fn put_exports(w: &mut Writer) -> Result<(), NoMemory>
 }
 
 /// Appends the result of a call (RFC 1094, A.5), in which a handle is that of the root.
-pub fn write_mount(w: &mut Writer, args: &MountArgs, root: &Handle) -> Result<(), NoMemory>
-    ensures { OnOk result (w.new ≡ w.old ++ mount_text (call_of args.now) root.now) }
+pub fn write_mount(w: &mut Writer, args: &MountArgs, root: Handle) -> Result<(), NoMemory>
+    ensures text { OnOk result (w.new ≡ w.old ++ mount_text (call_of args.now) root) }
+    ensures kept { OnErr result (take (length w.old) w.new ≡ w.old) }
 {
     match args {
         MountArgs::Null | MountArgs::Umnt { .. } | MountArgs::UmntAll => Ok(()),

@@ -4,7 +4,9 @@ use Rattle.xdr_core.specs.Items.{Item, fixed, any_word, any_opaque}
 use Rattle.xdr_core.specs.Grammar.{Grammar, gives, item, and_then}
 use Rattle.nfs2_types.specs.declared.args.SetTime.{SetTime}
 use Rattle.nfs2_types.specs.declared.args.Sattr.{Sattr}
-use Rattle.nfs2_types.specs.Call.{Call, null, root, write_cache, get_attr, set_attr, lookup, read_link, read, write, create, remove, rename, link, symlink, make_dir, remove_dir, read_dir, stat_fs}
+use Rattle.nfs2_types.specs.Sizes.{max_name, max_path, max_data}
+use Rattle.nfs2_types.specs.Call.{Call, null, root, write_cache, get_attr, set_attr, lookup, read_link, read, write}
+use Rattle.nfs2_types.specs.Call.{create, remove, rename, link, symlink, make_dir, remove_dir, read_dir, stat_fs}
 
 -- ---- the types that arguments are made of
 
@@ -14,15 +16,15 @@ handle = fixed 32
 
 -- filename (RFC 1094, 2.3.7)
 abbrev pub name : Item
-name = any_opaque 255
+name = any_opaque max_name
 
 -- path (RFC 1094, 2.3.8)
 abbrev pub path : Item
-path = any_opaque 1024
+path = any_opaque max_path
 
 -- nfsdata (RFC 1094, 2.2.7)
 abbrev pub content : Item
-content = any_opaque 8192
+content = any_opaque max_data
 
 -- a field of all ones is left alone (RFC 1094, 2.3.6)
 abbrev pub given : ℕ → Option ℕ
@@ -83,7 +85,8 @@ read_form =
 -- WRITE: fhandle, beginoffset, offset, totalcount, nfsdata; beginoffset and totalcount are ignored (RFC 1094, 2.2.9)
 unfoldable pub write_form : Grammar Call
 write_form =
-    item handle λ file. item any_word λ begin_offset. item any_word λ offset. item any_word λ total_count. item content λ bytes.
+    item handle λ file. item any_word λ begin_offset. item any_word λ offset. item any_word λ total_count.
+    item content λ bytes.
     gives (write file offset bytes)
 
 -- CREATE: diropargs, sattr (RFC 1094, 2.2.10)
@@ -124,7 +127,8 @@ read_dir_form = item handle λ dir. item any_word λ cookie. item any_word λ co
 unfoldable pub stat_fs_form : Grammar Call
 stat_fs_form = item handle λ node. gives (stat_fs node)
 
--- by the number of the procedure, 0 to 17; NULL, ROOT and WRITECACHE have no arguments (RFC 1094, 2.2, 2.2.1, 2.2.4, 2.2.8)
+-- by the number of the procedure, 0 to 17; NULL, ROOT and WRITECACHE have no arguments (RFC 1094, 2.2, 2.2.1, 2.2.4,
+-- 2.2.8)
 abbrev pub args_form : ℕ → Grammar Call
 args_form proc =
     if proc == 1 then get_attr_form else

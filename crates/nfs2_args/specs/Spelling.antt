@@ -3,7 +3,8 @@ use Rattle.std.specs.Prelude.{◌≡◌, ℕ, ◌<◌, ◌^◌, Bool, true, ◌&
 use Rattle.xdr_core.specs.Items.{spell_word, spell_fixed, spell_opaque}
 use Rattle.nfs2_types.specs.declared.args.SetTime.{SetTime}
 use Rattle.nfs2_types.specs.declared.args.Sattr.{Sattr}
-use Rattle.nfs2_types.specs.Call.{Call, null, root, write_cache, get_attr, set_attr, lookup, read_link, read, write, create, remove, rename, link, symlink, make_dir, remove_dir, read_dir, stat_fs}
+use Rattle.nfs2_types.specs.Call.{Call, null, root, write_cache, get_attr, set_attr, lookup, read_link, read, write}
+use Rattle.nfs2_types.specs.Call.{create, remove, rename, link, symlink, make_dir, remove_dir, read_dir, stat_fs}
 
 -- the number of the procedure (RFC 1094, 2.2)
 abbrev pub number_of : Call → ℕ
@@ -90,8 +91,10 @@ time_text t = spell_word (secs_of t) ++ spell_word (micros_of t)
 -- the eight words of a sattr (RFC 1094, 2.3.6)
 unfoldable pub sattr_text : Sattr → List ℕ
 sattr_text s =
-    spell_word (word_of s.mode) ++ (spell_word (word_of s.uid) ++ (spell_word (word_of s.gid) ++ (spell_word (word_of s.size)
-    ++ (spell_word (secs_of s.atime) ++ (spell_word (micros_of s.atime) ++ (spell_word (secs_of s.mtime) ++ spell_word (micros_of s.mtime)))))))
+    spell_word (word_of s.mode) ++ (spell_word (word_of s.uid)
+    ++ (spell_word (word_of s.gid) ++ (spell_word (word_of s.size)
+    ++ (spell_word (secs_of s.atime) ++ (spell_word (micros_of s.atime)
+    ++ (spell_word (secs_of s.mtime) ++ spell_word (micros_of s.mtime)))))))
 
 -- a directory and a name in it (RFC 1094, 2.3.10)
 abbrev pub place_text : (dir name : List ℕ) → List ℕ
@@ -107,7 +110,8 @@ args_text (set_attr node sattr) = spell_fixed node ++ sattr_text sattr
 args_text (lookup dir name) = place_text dir name
 args_text (read_link node) = spell_fixed node
 args_text (read file offset count) = spell_fixed file ++ (spell_word offset ++ (spell_word count ++ spell_word 0))
-args_text (write file offset bytes) = spell_fixed file ++ (spell_word 0 ++ (spell_word offset ++ (spell_word 0 ++ spell_opaque bytes)))
+args_text (write file offset bytes) = spell_fixed file ++ (spell_word 0
+    ++ (spell_word offset ++ (spell_word 0 ++ spell_opaque bytes)))
 args_text (create dir name sattr) = place_text dir name ++ sattr_text sattr
 args_text (remove dir name) = place_text dir name
 args_text (rename from name to to_name) = place_text from name ++ place_text to to_name

@@ -7,15 +7,6 @@ ghost use Rattle.nfs2_args.specs.Forms.{handle as handle_item, given, mode_given
 use nfs2_types::{Handle, Sattr, SetTime, Time};
 use xdr_core::{Reader, XdrErr};
 
-/// The bytes that a name may have: MAXNAMLEN (RFC 1094, 2.3.7).
-pub const MAX_NAME: u32 = 255;
-
-/// The bytes that a path may have: MAXPATHLEN (RFC 1094, 2.3.8).
-pub const MAX_PATH: u32 = 1024;
-
-/// The bytes that a WRITE may bring: MAXDATA (RFC 1094, 2.2.9).
-pub const MAX_DATA: u32 = 8192;
-
 /// What leaves a field alone (RFC 1094, 2.3.6).
 pub const ALL_ONES: u32 = 4_294_967_295;
 
@@ -23,10 +14,7 @@ pub const ALL_ONES: u32 = 4_294_967_295;
 pub fn handle(r: &mut Reader<'_>) -> Result<Handle, XdrErr>
     ensures { Gives (λ h. h) result r.new (item_at handle_item r.old) }
 {
-    let bytes = r.fixed(32)?;
-    let mut handle = [0; 32];
-    handle.copy_from_slice(bytes);
-    Ok(handle)
+    r.block()
 }
 
 /// A uid, a gid or a size.

@@ -2,13 +2,12 @@
 #![tactic(auto)]
 
 mod fields;
-mod laws;
+pub mod laws;
 mod procedures;
 mod reading;
 #[cfg(test)]
 mod tests;
 mod writing;
 
-pub use laws::no_prefix;
 pub use reading::read_args;
 pub use writing::write_args;

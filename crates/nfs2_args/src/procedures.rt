@@ -2,10 +2,12 @@
 
 ghost use Rattle.xdr_core.specs.Grammar.{Gives, reads};
 ghost use Rattle.nfs2_types.specs.Call.{call_of};
-ghost use Rattle.nfs2_args.specs.Forms.{get_attr_form, set_attr_form, lookup_form, read_link_form, read_form, write_form, create_form, remove_form, rename_form, link_form, symlink_form, make_dir_form, remove_dir_form, read_dir_form, stat_fs_form};
+ghost use Rattle.nfs2_args.specs.Forms.{get_attr_form, set_attr_form, lookup_form, read_link_form, read_form};
+ghost use Rattle.nfs2_args.specs.Forms.{write_form, create_form, remove_form, rename_form, link_form, symlink_form};
+ghost use Rattle.nfs2_args.specs.Forms.{make_dir_form, remove_dir_form, read_dir_form, stat_fs_form};
 
-use crate::fields::{MAX_DATA, MAX_NAME, MAX_PATH, handle, sattr};
-use nfs2_types::Args;
+use crate::fields::{handle, sattr};
+use nfs2_types::{Args, MAX_DATA, MAX_NAME, MAX_PATH};
 use xdr_core::{Reader, XdrErr};
 
 /// GETATTR (RFC 1094, 2.2.2).

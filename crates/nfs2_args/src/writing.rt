@@ -5,7 +5,8 @@ ghost use Rattle.xdr_core.specs.Items.{spell_word};
 ghost use Rattle.xdr_core.specs.Grammar.{Spells};
 ghost use Rattle.nfs2_types.specs.Call.{call_of, call_fits, set_attr, read, write, create, link, symlink, read_dir};
 ghost use Rattle.nfs2_args.specs.Forms.{args_form};
-ghost use Rattle.nfs2_args.specs.Spelling.{number_of, call_fields_fit, word_of, time_text, sattr_text, place_text, args_text, IsShaped};
+ghost use Rattle.nfs2_args.specs.Spelling.{number_of, call_fields_fit, IsShaped};
+ghost use Rattle.nfs2_args.specs.Spelling.{word_of, time_text, sattr_text, place_text, args_text};
 
 use crate::fields::ALL_ONES;
 use nfs2_types::{Args, Handle, NoMemory, Sattr, SetTime};
@@ -192,8 +193,8 @@ fn put_args(w: &mut Writer, args: &Args) -> Result<(), NoMemory>
     }
 }
 
-/// The arguments in the spelling that a field not given is all ones, a time left alone is all ones twice, the time of the
-/// request is the words 0 and 1,000,000, and an ignored word is 0. `read_args` reads them again.
+/// The arguments in the spelling that a field not given is all ones, a time left alone is all ones twice, the time of
+/// the request is the words 0 and 1,000,000, and an ignored word is 0. `read_args` reads them again.
 pub fn write_args(alloc: Global, args: &Args) -> Result<Vec<u8>, NoMemory>
     requires fits { call_fits (call_of args.now) ≡ true }
     requires fields { call_fields_fit (call_of args.now) ≡ true }

@@ -2,17 +2,21 @@
 use Rattle.std.specs.Prelude.{ℕ, zero, suc, ◌==◌, ◌||◌, if◌then◌else◌, List, [], ◌∷◌, ◌++◌}
 use Rattle.xdr_core.specs.Items.{Item, word, boolean, fixed, any_word, any_opaque}
 use Rattle.xdr_core.specs.Grammar.{Grammar, gives, item, and_then}
+use Rattle.nfs2_types.specs.Sizes.{max_name, max_path, max_data}
 use Rattle.nfs2_types.specs.declared.fattr.Fattr.{Fattr}
 use Rattle.nfs2_types.specs.declared.results.ListEntry.{ListEntry}
 use Rattle.nfs2_types.specs.declared.results.NfsResult.{NfsResult}
-use Rattle.nfs2_types.specs.declared.results.NfsResult.TheVariants.{Nothing, Refused, Done, Attr, Node, Path, Content, Entries, Space}
+use Rattle.nfs2_types.specs.declared.results.NfsResult.TheVariants.{Nothing, Refused, Done, Attr, Node, Path, Content}
+use Rattle.nfs2_types.specs.declared.results.NfsResult.TheVariants.{Entries, Space}
 
 -- the seventeen words of the attributes, in their order (2.3.5)
 unfoldable pub fattr_form : Grammar Fattr
 fattr_form =
-    item any_word λ ftype. item any_word λ mode. item any_word λ nlink. item any_word λ uid. item any_word λ gid. item any_word λ size.
-    item any_word λ blocksize. item any_word λ rdev. item any_word λ blocks. item any_word λ fsid. item any_word λ fileid.
-    item any_word λ asecs. item any_word λ amicros. item any_word λ msecs. item any_word λ mmicros. item any_word λ csecs. item any_word λ cmicros.
+    item any_word λ ftype. item any_word λ mode. item any_word λ nlink. item any_word λ uid. item any_word λ gid.
+    item any_word λ size. item any_word λ blocksize. item any_word λ rdev. item any_word λ blocks.
+    item any_word λ fsid. item any_word λ fileid.
+    item any_word λ asecs. item any_word λ amicros. item any_word λ msecs. item any_word λ mmicros.
+    item any_word λ csecs. item any_word λ cmicros.
     gives (record {
       ftype = ftype;
       mode = mode;
@@ -35,7 +39,7 @@ fattr_form =
 
 -- an entry, behind the word that announces it (2.2.17)
 unfoldable pub entry_form : Grammar ListEntry
-entry_form = item any_word λ fileid. item (any_opaque 255) λ name. item any_word λ cookie.
+entry_form = item any_word λ fileid. item (any_opaque max_name) λ name. item any_word λ cookie.
     gives (record { fileid = fileid; name = name; cookie = cookie })
 
 -- the word 0, which no more entries follow
@@ -58,11 +62,11 @@ node_arm = item (fixed 32) λ handle. and_then fattr_form λ a. gives (Node hand
 
 -- READLINK's arm
 unfoldable pub path_arm : Grammar NfsResult
-path_arm = item (any_opaque 1024) λ text. gives (Path text)
+path_arm = item (any_opaque max_path) λ text. gives (Path text)
 
 -- READ's arm
 unfoldable pub content_arm : Grammar NfsResult
-content_arm = and_then fattr_form λ a. item (any_opaque 8192) λ bytes. gives (Content a bytes)
+content_arm = and_then fattr_form λ a. item (any_opaque max_data) λ bytes. gives (Content a bytes)
 
 -- READDIR's arm
 unfoldable pub entries_arm : ℕ → Grammar NfsResult
@@ -70,7 +74,8 @@ entries_arm limit = and_then (entries_form limit []) λ entries. item boolean λ
 
 -- STATFS's arm
 unfoldable pub space_arm : Grammar NfsResult
-space_arm = item any_word λ tsize. item any_word λ bsize. item any_word λ blocks. item any_word λ bfree. item any_word λ bavail.
+space_arm =
+    item any_word λ tsize. item any_word λ bsize. item any_word λ blocks. item any_word λ bfree. item any_word λ bavail.
     gives (Space tsize bsize blocks bfree bavail)
 
 -- what follows the status OK in the result of a procedure (2.2.2 to 2.2.18), with at most so many entries
@@ -89,7 +94,8 @@ status_form arm = item any_word λ status. if status == 0 then arm else gives (R
 
 -- the result of a procedure; NULL, ROOT and WRITECACHE have none
 abbrev pub result_form : (limit proc : ℕ) → Grammar NfsResult
-result_form limit proc = if proc == 0 || proc == 3 || proc == 7 then gives Nothing else status_form (arm_form limit proc)
+result_form limit proc =
+    if proc == 0 || proc == 3 || proc == 7 then gives Nothing else status_form (arm_form limit proc)
 
 -- the procedures whose results have the shape of this one
 abbrev pub procedures : NfsResult → List ℕ

@@ -1,7 +1,7 @@
 -- What a reader gives that may want memory.
 use Rattle.std.specs.Prelude.{◌≡◌, ℕ, List, length, Some, Result, Ok, Err, IfOk}
 use Rattle.xdr_core.specs.declared.error.XdrErr.{XdrErr}
-use Rattle.xdr_core.specs.Grammar.{Cursor, Stop, Spells, IsFirstWrong}
+use Rattle.xdr_core.specs.Grammar.{Cursor, Stop, Spells, FailsAt, GivesBy, GivesAllBy, IsFirstWrong}
 use Rattle.nfs2_types.specs.declared.results.NfsResult.{NfsResult}
 use Rattle.nfs2_results.specs.declared.error.ResErr.{ResErr}
 use Rattle.nfs2_results.specs.declared.error.ResErr.TheVariants.{Xdr, NoMemory}
@@ -9,18 +9,16 @@ use Rattle.nfs2_results.specs.Forms.{result_form}
 
 -- the first wrong item, unless memory ran out
 abbrev pub FailsAs : {Y : Type 0} → ResErr → Result Y Stop → Type 0
-FailsAs (Xdr e) read = read ≡ Err (record { at = e.at; why = Some e.kind })
+FailsAs (Xdr e) read = FailsAt e read
 FailsAs NoMemory read = Unit {0}
 
 -- what a function returned, seen by view, and the reader after it, are what reading gives, unless memory ran out
 abbrev pub GivesAt : {X Y : Type 0} → (X → Y) → Result X ResErr → Cursor → Result (Y × Cursor) Stop → Type 0
-GivesAt view (Ok x) after read = read ≡ Ok (view x, after)
-GivesAt view (Err e) after read = FailsAs e read
+GivesAt view result after read = GivesBy FailsAs view result after read
 
 -- the same of all of the bytes
 abbrev pub GivesWhole : {X : Type 0} → Result X ResErr → Result X Stop → Type 0
-GivesWhole (Ok x) read = read ≡ Ok x
-GivesWhole (Err e) read = FailsAs e read
+GivesWhole result read = GivesAllBy FailsAs (λ x. x) result read
 
 -- this value, unless memory ran out
 abbrev pub IsOkOrNoMemory : {X : Type 0} → Result X ResErr → X → Type 0

@@ -1,20 +1,24 @@
 -- The one spelling of a result, and the results that have one (RFC 1094, 2.2 and 2.3).
 use Rattle.std.specs.Prelude.{◌≡◌, ◌≢◌, ℕ, ◌^◌, ◌<◌, ◌≤◌, true, false, List, [], ◌∷◌, ◌++◌, length, All}
-use Rattle.xdr_core.specs.Items.{spell_word, spell_bool, spell_fixed, spell_opaque}
+use Rattle.xdr_core.specs.Items.{AreWords, spell_word, spell_words, spell_bool, spell_fixed, spell_opaque}
 use Rattle.xdr_core.specs.Grammar.{Spells}
+use Rattle.nfs2_types.specs.Sizes.{max_name, max_path, max_data}
 use Rattle.nfs2_types.specs.declared.fattr.Fattr.{Fattr}
 use Rattle.nfs2_types.specs.declared.results.ListEntry.{ListEntry}
 use Rattle.nfs2_types.specs.declared.results.NfsResult.{NfsResult}
-use Rattle.nfs2_types.specs.declared.results.NfsResult.TheVariants.{Nothing, Refused, Done, Attr, Node, Path, Content, Entries, Space}
+use Rattle.nfs2_types.specs.declared.results.NfsResult.TheVariants.{Nothing, Refused, Done, Attr, Node, Path, Content}
+use Rattle.nfs2_types.specs.declared.results.NfsResult.TheVariants.{Entries, Space}
 use Rattle.nfs2_results.specs.Forms.{fattr_form, entry_form}
 
 -- the seventeen words of the attributes, in their order (2.3.5)
+abbrev pub fattr_words : Fattr → List ℕ
+fattr_words a =
+    a.ftype ∷ a.mode ∷ a.nlink ∷ a.uid ∷ a.gid ∷ a.size ∷ a.blocksize ∷ a.rdev ∷ a.blocks ∷ a.fsid ∷ a.fileid
+    ∷ a.atime_secs ∷ a.atime_micros ∷ a.mtime_secs ∷ a.mtime_micros ∷ a.ctime_secs ∷ a.ctime_micros ∷ []
+
+-- the spelling of the attributes
 unfoldable pub fattr_text : Fattr → List ℕ
-fattr_text a =
-    spell_word a.ftype ++ (spell_word a.mode ++ (spell_word a.nlink ++ (spell_word a.uid ++ (spell_word a.gid ++ (spell_word a.size
-    ++ (spell_word a.blocksize ++ (spell_word a.rdev ++ (spell_word a.blocks ++ (spell_word a.fsid ++ (spell_word a.fileid
-    ++ (spell_word a.atime_secs ++ (spell_word a.atime_micros ++ (spell_word a.mtime_secs ++ (spell_word a.mtime_micros
-    ++ (spell_word a.ctime_secs ++ spell_word a.ctime_micros)))))))))))))))
+fattr_text a = spell_words (fattr_words a)
 
 -- an entry behind the word 1 that announces it (2.2.17)
 abbrev pub entry_text : ListEntry → List ℕ
@@ -36,7 +40,7 @@ result_text (Path text) = spell_word 0 ++ spell_opaque text
 result_text (Content a bytes) = spell_word 0 ++ (fattr_text a ++ spell_opaque bytes)
 result_text (Entries entries eof) = spell_word 0 ++ (entries_text entries ++ spell_bool eof)
 result_text (Space tsize bsize blocks bfree bavail) =
-    spell_word 0 ++ (spell_word tsize ++ (spell_word bsize ++ (spell_word blocks ++ (spell_word bfree ++ spell_word bavail))))
+    spell_words (0 ∷ tsize ∷ bsize ∷ blocks ∷ bfree ∷ bavail ∷ [])
 
 -- the results that have a spelling: no refusal is OK, and texts, bytes and names are within their limits
 abbrev pub HasSpelling : NfsResult → Type 0
@@ -45,9 +49,9 @@ HasSpelling (Refused stat) = stat.0 ≢ 0
 HasSpelling Done = Unit {0}
 HasSpelling (Attr a) = Unit {0}
 HasSpelling (Node handle a) = Unit {0}
-HasSpelling (Path text) = length text ≤ 1024
-HasSpelling (Content a bytes) = length bytes ≤ 8192
-HasSpelling (Entries entries eof) = All (λ e. length e.name ≤ 255) entries
+HasSpelling (Path text) = length text ≤ max_path
+HasSpelling (Content a bytes) = length bytes ≤ max_data
+HasSpelling (Entries entries eof) = All (λ e. length e.name ≤ max_name) entries
 HasSpelling (Space tsize bsize blocks bfree bavail) = Unit {0}
 
 -- ---- the parts of a result are what they are read as
@@ -55,14 +59,6 @@ HasSpelling (Space tsize bsize blocks bfree bavail) = Unit {0}
 -- an entry behind the word that announces it
 abbrev pub IsEntrySpelled : ListEntry → Type 0
 IsEntrySpelled e = Spells entry_form e (spell_word e.fileid ++ (spell_opaque e.name ++ spell_word e.cookie))
-
--- the five words of STATFS
-pub record AreWords (a b c d e : ℕ) : Type 0 where
-  pub first : a < 2 ^ 32
-  pub second : b < 2 ^ 32
-  pub third : c < 2 ^ 32
-  pub fourth : d < 2 ^ 32
-  pub fifth : e < 2 ^ 32
 
 -- what the parts of a result are known to spell, once they are written
 abbrev pub AreSpelled : NfsResult → Type 0
@@ -74,4 +70,4 @@ AreSpelled (Node handle a) = (length handle ≡ 32) × Spells fattr_form a (fatt
 AreSpelled (Path text) = Unit {0}
 AreSpelled (Content a bytes) = Spells fattr_form a (fattr_text a)
 AreSpelled (Entries entries eof) = All IsEntrySpelled entries
-AreSpelled (Space tsize bsize blocks bfree bavail) = AreWords tsize bsize blocks bfree bavail
+AreSpelled (Space tsize bsize blocks bfree bavail) = AreWords (0 ∷ tsize ∷ bsize ∷ blocks ∷ bfree ∷ bavail ∷ [])

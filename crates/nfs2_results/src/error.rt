@@ -9,7 +9,9 @@ use xdr_core::XdrErr;
 /// The first wrong item, or want of memory.
 #[derive(Clone, Copy, Debug, PartialEq, Eq)]
 pub enum ResErr {
+    /// The bytes are no result: this item is the first that is wrong.
     Xdr(XdrErr),
+    /// Memory is wanting for a name, a text or the list.
     NoMemory,
 }
 

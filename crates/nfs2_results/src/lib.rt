@@ -2,13 +2,12 @@
 #![tactic(auto)]
 
 mod error;
-mod laws;
+pub mod laws;
 mod reading;
 #[cfg(test)]
 mod tests;
 mod writing;
 
 pub use error::ResErr;
-pub use laws::no_prefix;
 pub use reading::read_result;
 pub use writing::write_result;

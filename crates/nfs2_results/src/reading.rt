@@ -1,14 +1,16 @@
 //! Reads the results of calls.
 ghost use Rattle.std.specs.Prelude.{◌≡◌, ◌≤◌, ◌==◌, ◌||◌, [], length};
 ghost use Rattle.xdr_core.specs.Grammar.{Gives, reads, reads_all};
-ghost use Rattle.nfs2_results.specs.Forms.{fattr_form, entry_form, entries_form, attr_arm, node_arm, path_arm, content_arm, entries_arm, space_arm, arm_form, status_form, result_form};
+ghost use Rattle.nfs2_results.specs.Forms.{fattr_form, entry_form, entries_form, attr_arm, node_arm, path_arm};
+ghost use Rattle.nfs2_results.specs.Forms.{content_arm, entries_arm, space_arm, arm_form, status_form, result_form};
 ghost use Rattle.nfs2_results.specs.Reading.{GivesAt, GivesWhole, IsResultOf};
 
 use crate::error::ResErr;
-use nfs2_types::{Blob, Fattr, ListEntry, Listing, NfsResult, Stat};
+use nfs2_types::{Blob, Fattr, ListEntry, Listing, MAX_DATA, MAX_NAME, MAX_PATH, NfsResult, Stat};
 use std::alloc::Global;
 use xdr_core::{Reader, XdrErr};
 
+/// The attributes that stand next.
 #[tactic(auto, unfolding(crate::specs::Forms::fattr_form))]
 fn fattr_at(r: &mut Reader<'_>) -> Result<Fattr, XdrErr>
     ensures { Gives (λ a. a) result r.new (reads fattr_form r.old) }
@@ -34,6 +36,7 @@ fn fattr_at(r: &mut Reader<'_>) -> Result<Fattr, XdrErr>
     })
 }
 
+/// The arm of an attrstat.
 #[tactic(auto, using(xdr_core::proofs::Sequence::reads_then), unfolding(crate::specs::Forms::attr_arm))]
 fn attr_at(r: &mut Reader<'_>) -> Result<NfsResult, ResErr>
     ensures { GivesAt (λ x. x) result r.new (reads attr_arm r.old) }
@@ -41,37 +44,39 @@ fn attr_at(r: &mut Reader<'_>) -> Result<NfsResult, ResErr>
     Ok(NfsResult::Attr(fattr_at(r)?))
 }
 
+/// The arm of a diropres.
 #[tactic(auto, using(xdr_core::proofs::Sequence::reads_then), unfolding(crate::specs::Forms::node_arm))]
 fn node_at(r: &mut Reader<'_>) -> Result<NfsResult, ResErr>
     ensures { GivesAt (λ x. x) result r.new (reads node_arm r.old) }
 {
-    let bytes = r.fixed(32)?;
-    let mut handle = [0; 32];
-    handle.copy_from_slice(bytes);
+    let handle = r.block()?;
     let fattr = fattr_at(r)?;
     Ok(NfsResult::Node { handle, fattr })
 }
 
+/// READLINK's arm.
 #[tactic(auto, unfolding(crate::specs::Forms::path_arm))]
 fn path_at(alloc: Global, r: &mut Reader<'_>) -> Result<NfsResult, ResErr>
     ensures { GivesAt (λ x. x) result r.new (reads path_arm r.old) }
 {
-    let text = r.opaque(1024)?;
+    let text = r.opaque(MAX_PATH)?;
     Ok(NfsResult::Path(Blob::from_slice(alloc, text)?))
 }
 
+/// READ's arm.
 #[tactic(auto, using(xdr_core::proofs::Sequence::reads_then), unfolding(crate::specs::Forms::content_arm))]
 fn content_at(alloc: Global, r: &mut Reader<'_>) -> Result<NfsResult, ResErr>
     ensures { GivesAt (λ x. x) result r.new (reads content_arm r.old) }
 {
     let fattr = fattr_at(r)?;
-    let bytes = r.opaque(8192)?;
+    let bytes = r.opaque(MAX_DATA)?;
     Ok(NfsResult::Content {
         fattr,
         bytes: Blob::from_slice(alloc, bytes)?,
     })
 }
 
+/// STATFS's arm.
 #[tactic(auto, unfolding(crate::specs::Forms::space_arm))]
 fn space_at(r: &mut Reader<'_>) -> Result<NfsResult, ResErr>
     ensures { GivesAt (λ x. x) result r.new (reads space_arm r.old) }
@@ -85,12 +90,13 @@ fn space_at(r: &mut Reader<'_>) -> Result<NfsResult, ResErr>
     })
 }
 
+/// An entry, behind the word that announces it.
 #[tactic(auto, unfolding(crate::specs::Forms::entry_form))]
 fn entry_at(alloc: Global, r: &mut Reader<'_>) -> Result<ListEntry, ResErr>
     ensures { GivesAt (λ x. x) result r.new (reads entry_form r.old) }
 {
     let fileid = r.word()?;
-    let name = r.opaque(255)?;
+    let name = r.opaque(MAX_NAME)?;
     let cookie = r.word()?;
     Ok(ListEntry {
         fileid,
@@ -111,6 +117,7 @@ fn entries_at(alloc: Global, r: &mut Reader<'_>) -> Result<Vec<ListEntry>, ResEr
     Ok(entries)
 }
 
+/// READDIR's arm.
 #[tactic(auto, using(xdr_core::proofs::Sequence::reads_then), unfolding(crate::specs::Forms::entries_arm))]
 fn listing_at(alloc: Global, r: &mut Reader<'_>) -> Result<NfsResult, ResErr>
     ensures { GivesAt (λ x. x) result r.new (reads (entries_arm (length r.old.rest)) r.old) }
@@ -145,6 +152,7 @@ fn is_bare(proc: u32) -> bool
     proc == 0 || proc == 3 || proc == 7
 }
 
+/// The result that stands next.
 fn result_at(alloc: Global, proc: u32, r: &mut Reader<'_>) -> Result<NfsResult, ResErr>
     ensures { GivesAt (λ x. x) result r.new (reads (result_form (length r.old.rest) proc) r.old) }
 {
@@ -158,6 +166,7 @@ fn result_at(alloc: Global, proc: u32, r: &mut Reader<'_>) -> Result<NfsResult, 
     arm_at(alloc, proc, r)
 }
 
+/// The result, behind which nothing stands.
 #[tactic(auto, unfolding(xdr_core::specs::Grammar::reads_all))]
 fn whole_result(alloc: Global, proc: u32, bytes: &[u8]) -> Result<NfsResult, ResErr>
     ensures { GivesWhole result (reads_all (result_form (length bytes.now) proc) bytes.now) }
@@ -171,7 +180,7 @@ fn whole_result(alloc: Global, proc: u32, bytes: &[u8]) -> Result<NfsResult, Res
 /// The result of a procedure that the bytes spell, all of them, or the first wrong item (RFC 1094, 2.2).
 pub fn read_result(alloc: Global, proc: u32, bytes: &[u8]) -> Result<NfsResult, ResErr>
     requires { proc ≤ 17 }
-    ensures { IsResultOf proc bytes.now result }
+    ensures read { IsResultOf proc bytes.now result }
 {
     whole_result(alloc, proc, bytes)
 }

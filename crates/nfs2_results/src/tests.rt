@@ -36,8 +36,8 @@ const WORDS: [u8; 68] = [
     0, 16, 0, 0, 0, 17,
 ];
 
-/// Where things stand in the bytes of a result: the last item; an item with padding, and a byte of that padding; the last
-/// bool. 0 where there is none.
+/// Where things stand in the bytes of a result: the last item; an item with padding, and a byte of that padding;
+/// the last bool. 0 where there is none.
 #[derive(Clone, Copy)]
 struct Marks {
     last: usize,
@@ -74,8 +74,8 @@ fn refused(rt: &impl Abort, alloc: Global, proc: u32, bytes: &[u8], at: usize, k
     );
 }
 
-/// A result that is spelled so is refused with a byte more, a byte less, a byte of padding that is not zero, and a bool of
-/// more than one.
+/// A result that is spelled so is refused with a byte more, a byte less, a byte of padding that is not zero,
+/// and a bool of more than one.
 fn spoiled(rt: &impl Abort, alloc: Global, proc: u32, bytes: &[u8], at: Marks) -> Result<(), Fail>
     requires { proc ≤ 17 }
 {
@@ -168,7 +168,7 @@ fn refusals(rt: HostRuntime) -> Result<(), Fail> {
     all_both_ways(&rt, rt.alloc(), &procs, &stale, &[&[0, 0, 0, 70]], PLAIN)
 }
 
-// RFC 1094, 2.3.9 and 2.3.10: GETATTR 1, SETATTR 2 and WRITE 8 give attributes; LOOKUP 4, CREATE 9 and MKDIR 14 a handle
+// RFC 1094, 2.3.9 and 2.3.11: GETATTR 1, SETATTR 2 and WRITE 8 give attributes; LOOKUP 4, CREATE 9 and MKDIR 14 a handle
 // before them. 2.2.18: STATFS 17 gives five words.
 #[test]
 fn attributes(rt: HostRuntime) -> Result<(), Fail> {

@@ -2,4 +2,3 @@ pub mod Call
 pub mod Cred
 pub mod Reply
 pub mod Request
-pub mod Words

@@ -6,6 +6,7 @@ ghost use Rattle.rpc_core.specs.Cred.{group, group_count, auth_sys as auth_sys_f
 use nfs2_types::{Blob16, Cred};
 use xdr_core::Reader;
 
+/// The next group.
 fn gid_of(r: &mut Reader<'_>) -> Option<u32>
     ensures { Finds (λ n. n) result r.new (reads (group []) r.old) }
 {
@@ -35,6 +36,7 @@ fn group_count_of(r: &mut Reader<'_>) -> Option<u32>
     if count <= 16 { Some(count) } else { None }
 }
 
+/// The caller that stands next; the stamp and the machine are ignored.
 #[tactic(auto, using(xdr_core::proofs::Sequence::reads_then), unfolding(crate::specs::Cred::auth_sys))]
 fn auth_sys(r: &mut Reader<'_>) -> Option<Cred>
     ensures { Finds (λ c. c) result r.new (reads auth_sys_form r.old) }
@@ -48,6 +50,7 @@ fn auth_sys(r: &mut Reader<'_>) -> Option<Cred>
     Some(Cred { uid, gid, gids })
 }
 
+/// The caller that all of a body spells.
 #[tactic(auto, unfolding(xdr_core::specs::Grammar::reads_all))]
 fn auth_sys_in(body: &[u8]) -> Option<Cred>
     ensures { result ≡ value_of (reads_all auth_sys_form body.now) }

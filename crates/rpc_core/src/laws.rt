@@ -1,5 +1,6 @@
 //! What holds of headers and credentials.
-ghost use Rattle.std.specs.Prelude.{◌≡◌, ◌<◌, ℕ, List, Some, slice_index};
+ghost use Rattle.std.specs.Prelude.{◌≡◌, ◌<◌, ℕ, List, Some};
+ghost use Rattle.xdr_core.specs.Items.{IsBytes};
 ghost use Rattle.xdr_core.specs.Grammar.{Spells};
 ghost use Rattle.nfs2_types.specs.declared.cred.Cred.{Cred};
 ghost use Rattle.rpc_core.specs.declared.head.CallHead.{CallHead};
@@ -15,6 +16,6 @@ pub fn one_head()
 pub fn credentials()
     ensures spelled { (body : List ℕ) (cred : Cred) → Spells auth_sys cred body
         → cred_in 1 body ≡ Some cred }
-    ensures only { (body : List ℕ) (cred : Cred) → ((i : ℕ) → slice_index body i < 256)
+    ensures only { (body : List ℕ) (cred : Cred) → IsBytes body
         → cred_in 1 body ≡ Some cred → Spells auth_sys cred body }
 {}

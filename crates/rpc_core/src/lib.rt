@@ -4,15 +4,15 @@
 mod call;
 mod cred;
 mod head;
-mod laws;
+pub mod laws;
+mod program;
 mod reply;
 mod request;
 #[cfg(test)]
 mod tests;
-mod words;
 
 pub use call::read_call;
 pub use head::{CallHead, Refusal};
-pub use laws::{credentials, one_head};
+pub use program::{MOUNT, NFS};
 pub use reply::{begin_success, write_refusal};
 pub use request::write_call;

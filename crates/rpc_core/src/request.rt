@@ -2,13 +2,11 @@
 ghost use Rattle.std.specs.Prelude.{◌≡◌, ◌≤◌, ◌++◌, [], IfOk, OnOk, length, vec_len};
 ghost use Rattle.xdr_core.specs.Items.{spell_word, spell_opaque};
 ghost use Rattle.xdr_core.specs.Grammar.{Spells};
-ghost use Rattle.rpc_core.specs.Words.{words};
 ghost use Rattle.rpc_core.specs.Cred.{auth_sys};
 ghost use Rattle.rpc_core.specs.Call.{IsHead, IsServed};
 ghost use Rattle.rpc_core.specs.Request.{machine, cred_text, IsCredText, call_front};
 
 use crate::head::CallHead;
-use crate::words::put_words;
 use nfs2_types::{Cred, NoMemory};
 use std::alloc::Global;
 use xdr_core::Writer;
@@ -24,11 +22,12 @@ fn cred_body(alloc: Global, uid: u32, gid: u32, gids: &[u32]) -> Result<Vec<u8>,
     let mut w = Writer::new(alloc);
     w.word(0)?;
     w.opaque(b"gen")?;
-    put_words(&mut w, &[uid, gid, gids.len() as u32])?;
-    put_words(&mut w, gids)?;
+    w.words(&[uid, gid, gids.len() as u32])?;
+    w.words(gids)?;
     Ok(w.into_bytes())
 }
 
+/// The call up to its arguments.
 #[tactic(auto, unfolding(crate::specs::Request::call_front))]
 fn front(
     alloc: Global,
@@ -44,17 +43,19 @@ fn front(
     prove!(cred.gids.len() <= 16);
     let body = cred_body(alloc, cred.uid, cred.gid, cred.gids.as_slice())?;
     let mut w = Writer::new(alloc);
-    put_words(&mut w, &[xid, 0, 2, prog, vers, proc, 1])?;
+    w.words(&[xid, 0, 2, prog, vers, proc, 1])?;
     w.opaque(&body)?;
     w.word(0)?;
     w.opaque(&[])?;
     Ok(w.into_bytes())
 }
 
+/// Puts these bytes behind the others.
 fn append(bytes: &mut Vec<u8>, more: &[u8]) -> Result<(), NoMemory>
     ensures { OnOk result (bytes.new.items ≡ bytes.old.items ++ more.now) }
 {
-    bytes.extend_from_slice(more).map_err(|_| NoMemory)
+    bytes.extend_from_slice(more)?;
+    Ok(())
 }
 
 /// A call with these arguments, made with AUTH_SYS, a stamp of 0 and the machine name `gen`

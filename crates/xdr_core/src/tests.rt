@@ -57,6 +57,25 @@ fn writes_bools(rt: HostRuntime) -> Result<(), Fail> {
     Ok(())
 }
 
+#[test]
+fn words_and_blocks(rt: HostRuntime) -> Result<(), Fail> {
+    let mut w = Writer::new(rt.alloc());
+    w.words(&[1, 0x01020304])?;
+    w.fixed(&[7; 32])?;
+    let bytes = w.into_bytes();
+    assert_eq!(rt;
+        &bytes[..8.min(bytes.len())],
+        [0, 0, 0, 1, 1, 2, 3, 4].as_slice()
+    );
+    let mut r = Reader::new(&bytes);
+    let start = r.clone()?;
+    assert_eq!(rt; (r.word()?, r.word()?), (1, 0x01020304));
+    assert_eq!(rt; r.block()?, [7; 32]);
+    r.end()?;
+    assert_eq!(rt; start.at(), 0);
+    Ok(())
+}
+
 /// An item that is asked for.
 #[derive(Clone, Copy, Debug)]
 enum Wanted {

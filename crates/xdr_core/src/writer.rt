@@ -1,14 +1,15 @@
 //! A writer of items, each in its one spelling.
 
-ghost use Rattle.std.specs.Prelude.{◌≡◌, ◌++◌, ◌<◌, ◌^◌, length, [], OnOk};
-ghost use Rattle.xdr_core.specs.Items.{spell_word, spell_bool, spell_opaque, spell_fixed};
+ghost use Rattle.std.specs.Prelude.{◌≡◌, ◌++◌, ◌<◌, ◌≤◌, ◌^◌, length, replicate, [], OnOk, OnErr};
+ghost use Rattle.xdr_core.specs.Items.{spell_word, spell_words, spell_bool, spell_opaque, spell_fixed};
 
+use crate::padding::padding;
 use nfs2_types::NoMemory;
 use std::alloc::Global;
 use std::marker::Model;
 
-/// Bytes to which items are appended (RFC 4506, 4). After an error some bytes of the item may stand behind the old ones.
-#[derive(Drop)]
+/// Bytes to which items are appended (RFC 4506, 4). An error leaves them as they were.
+#[derive(Debug, Drop)]
 pub struct Writer {
     bytes: Vec<u8>,
 }
@@ -34,14 +35,31 @@ impl Writer {
     /// Appends a number of four bytes, the high one first (RFC 4506, 4.2).
     #[tactic(auto, unfolding(crate::specs::Items::spell_word))]
     pub fn word(&mut self, v: u32) -> Result<(), NoMemory>
-        ensures { OnOk result (self.new ≡ self.old ++ spell_word v) }
+        ensures text { OnOk result (self.new ≡ self.old ++ spell_word v) }
+        ensures err { OnErr result (self.new ≡ self.old) }
     {
         self.put(&v.to_be_bytes())
     }
 
+    /// Appends each of these numbers (RFC 4506, 4.2).
+    pub fn words(&mut self, words: &[u32]) -> Result<(), NoMemory>
+        ensures text { OnOk result (self.new ≡ self.old ++ spell_words words.now) }
+        ensures err { OnErr result (self.new ≡ self.old) }
+    {
+        let start = self.bytes.len();
+        for n in words {
+            if let Err(e) = self.word(*n) {
+                self.bytes.truncate(start);
+                return Err(e);
+            }
+        }
+        Ok(())
+    }
+
     /// Appends the word 1 for true, and 0 for false (RFC 4506, 4.4).
     pub fn boolean(&mut self, v: bool) -> Result<(), NoMemory>
-        ensures { OnOk result (self.new ≡ self.old ++ spell_bool v) }
+        ensures text { OnOk result (self.new ≡ self.old ++ spell_bool v) }
+        ensures err { OnErr result (self.new ≡ self.old) }
     {
         self.word(if v { 1 } else { 0 })
     }
@@ -50,20 +68,29 @@ impl Writer {
     #[tactic(auto, unfolding(crate::specs::Items::spell_opaque))]
     pub fn opaque(&mut self, bytes: &[u8]) -> Result<(), NoMemory>
         requires { length bytes.now < 2 ^ 32 }
-        ensures { OnOk result (self.new ≡ self.old ++ spell_opaque bytes.now) }
+        ensures text { OnOk result (self.new ≡ self.old ++ spell_opaque bytes.now) }
+        ensures err { OnErr result (self.new ≡ self.old) }
     {
+        let before_length = self.bytes.len();
         self.word(bytes.len() as u32)?;
-        self.fixed(bytes)
+        if let Err(e) = self.fixed(bytes) {
+            self.bytes.truncate(before_length);
+            return Err(e);
+        }
+        Ok(())
     }
 
     /// Appends the bytes and their padding (RFC 4506, 4.9).
     #[tactic(auto, unfolding(crate::specs::Items::spell_fixed))]
     pub fn fixed(&mut self, bytes: &[u8]) -> Result<(), NoMemory>
-        ensures { OnOk result (self.new ≡ self.old ++ spell_fixed bytes.now) }
+        ensures text { OnOk result (self.new ≡ self.old ++ spell_fixed bytes.now) }
+        ensures err { OnErr result (self.new ≡ self.old) }
     {
+        let before = self.bytes.len();
         self.put(bytes)?;
-        for _pad in 0..(4 - bytes.len() % 4) % 4 {
-            self.put(&[0])?;
+        if let Err(e) = self.pad(padding(bytes.len())) {
+            self.bytes.truncate(before);
+            return Err(e);
         }
         Ok(())
     }
@@ -76,10 +103,21 @@ impl Writer {
         bytes
     }
 
+    /// Appends so many zero bytes, at most three.
+    fn pad(&mut self, count: usize) -> Result<(), NoMemory>
+        requires { count ≤ 3 }
+        ensures text { OnOk result (self.new ≡ self.old ++ replicate count 0) }
+        ensures err { OnErr result (self.new ≡ self.old) }
+    {
+        self.put(&[0; 3][..count])
+    }
+
     /// Appends bytes as they are.
     fn put(&mut self, piece: &[u8]) -> Result<(), NoMemory>
-        ensures { OnOk result (self.new ≡ self.old ++ piece.now) }
+        ensures text { OnOk result (self.new ≡ self.old ++ piece.now) }
+        ensures err { OnErr result (self.new ≡ self.old) }
     {
-        self.bytes.extend_from_slice(piece).map_err(|_| NoMemory)
+        self.bytes.extend_from_slice(piece)?;
+        Ok(())
     }
 }

@@ -10,8 +10,8 @@ use std::process::Abort;
 use std::test::Fail;
 use xdr_core::{XdrErr, XdrKind};
 
-/// The arguments of one procedure: their bytes, where the last item begins, where an item with padding begins, and where
-/// a byte of that padding is (0: there is none).
+/// The arguments of one procedure: their bytes, where the last item begins, where an item with padding begins, and
+/// where a byte of that padding is (0: there is none).
 #[derive(Drop)]
 struct Row<'a> {
     parts: &'a [&'a [u8]],
@@ -39,17 +39,14 @@ impl<'a> Row<'a> {
     }
 }
 
-/// The bytes are read as the arguments, which are written as these bytes again; with a byte less, with a byte of padding
-/// that is not zero, and with a byte more they are refused.
+/// The bytes are read as the arguments, which are written as these bytes again; with a byte less, with a byte of
+/// padding that is not zero, and with a byte more they are refused.
 fn try_row(rt: &impl Abort, alloc: Global, proc: u32, row: &Row<'_>) -> Result<(), Fail>
     requires { proc ≤ 17 }
 {
     let mut text = joined(alloc, row.parts)?;
     let args = read_args(proc, text.as_slice())?;
-    assert_eq!(rt;
-        format!(in alloc; "{args:?}")?,
-        format!(in alloc; "{:?}", row.args)?
-    );
+    assert!(rt; args == row.args, "procedure {proc}");
     assert_eq!(rt; write_args(alloc, &args)?.as_slice(), text.as_slice());
     let size = text.len();
     if row.pad > 0 && row.pad < size {

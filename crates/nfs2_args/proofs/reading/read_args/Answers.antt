@@ -23,6 +23,10 @@ pub returns : goal.returns
 returns c =
     let r = c.all_arguments.result in
     let bytes = c.args.bytes.now in
-    let read : IsReading call_of (args_form c.args.proc) bytes r = is_reading call_of (args_form c.args.proc) bytes r (λ i. omega (arith, c.type_inv.bytes i)) c.all_arguments.ensures in
+    let read : IsReading call_of (args_form c.args.proc) bytes r =
+    is_reading call_of (args_form c.args.proc) bytes r (λ i. omega (
+      arith,
+      c.type_inv.bytes i,
+    )) c.all_arguments.ensures in
     let all = parts c.args.proc r (read_within_bounds c.args.proc bytes r c.requires read.found) in
     record { read = read; all = c.all_arguments.ensures; fits = all.fits; fields = all.fields; number = all.number }

@@ -9,5 +9,7 @@ use Rattle.nfs2_args.proofs.writing.write_args.Goals as goal
 pub returns-clause-again : goal.returns-clause-again
 returns-clause-again c =
     let call = call_of c.args.args.now in
-    let is : c.into_bytes.result.items ≡ args_text call = c.into_bytes.ensures ∙ c.in_ok-put_args.ensures.text ∙ ap (λ (t : List ℕ). t ++ args_text call) c.new-w.ensures in
-    subst (λ (t : List ℕ). Spells (args_form (number_of call)) call t) (sym is) (args_spelled call c.in_ok-put_args.ensures.shape c.requires.fits c.requires.fields)
+    let is : c.into_bytes.result.items ≡ args_text call = c.into_bytes.ensures ∙ c.in_ok-put_args.ensures.text
+    ∙ ap (λ (t : List ℕ). t ++ args_text call) c.new-w.ensures in
+    subst (λ (t : List ℕ). Spells (args_form (number_of call)) call t) (sym is)
+    (args_spelled call c.in_ok-put_args.ensures.shape c.requires.fits c.requires.fields)
