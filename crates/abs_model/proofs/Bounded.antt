@@ -7,6 +7,7 @@ use Rattle.nfs2_types.specs.declared.Limits.{Limits}
 use Rattle.abs_model.specs.declared.entry.NameRow.{NameRow}
 use Rattle.abs_model.specs.declared.entry.Entry.{Entry}
 use Rattle.abs_model.specs.Objects.{names_of, bytes_of, attr_of, used_by, is_link, is_dir}
+use Rattle.abs_model.specs.Numbers.{file_limit, text_limit}
 use Rattle.abs_model.specs.Array.{entry_at, null_entry, links, used}
 use Rattle.abs_model.specs.Valid.{Valid, most_bytes}
 use Rattle.abs_model.specs.Bounds.{HasBounds}
@@ -22,10 +23,10 @@ links_used (e ∷ A) i =
     let all = sum_by-cons used_by e A in
     omega arith
 
-bytes_most : (e : Entry) → length (bytes_of e) ≤ most_bytes e → length (bytes_of e) ≤ 1048576
+bytes_most : (e : Entry) → length (bytes_of e) ≤ most_bytes e → length (bytes_of e) ≤ file_limit
 bytes_most e h = go (is_link e) h
   where
-    go : (b : Bool) → length (bytes_of e) ≤ cond b 1024 1048576 → length (bytes_of e) ≤ 1048576
+    go : (b : Bool) → length (bytes_of e) ≤ cond b text_limit file_limit → length (bytes_of e) ≤ file_limit
     go true k = omega arith
     go false k = k
 

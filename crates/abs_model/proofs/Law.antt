@@ -15,7 +15,8 @@ use Rattle.abs_model.specs.declared.entry.Object.{Object}
 use Rattle.abs_model.specs.declared.entry.Object.TheVariants.{Null, File, Dir, Link}
 use Rattle.abs_model.specs.Objects.{is_null, is_file, is_dir, is_link, names_of, bytes_of, attr_of, row_of, without, with_attr, new_attr, set_attr_of, written_at, written, nulled}
 use Rattle.abs_model.specs.Array.{entry_at, changed, used, free, at, target, has_name}
-use Rattle.abs_model.specs.Machine.{first_of, refusals, changes, made, with_bytes, with_names, adds, to_be, unlinked, no_room, no_new, array_after, effect, file_limit}
+use Rattle.abs_model.specs.Machine.{first_of, refusals, changes, made, with_bytes, with_names, adds, to_be, unlinked, no_room, no_new, array_after, effect}
+use Rattle.abs_model.specs.Numbers.{file_limit, text_limit, new_file_mode, new_dir_mode, open_mode}
 use Rattle.nfs2_types.specs.Bytes.{resized, overwritten}
 use Rattle.nfs2_types.specs.Names.{is_bad, is_dot, is_name}
 use Rattle.nfs2_types.specs.Times.{is_time}
@@ -67,7 +68,7 @@ file_facts e h = go e.object h
     go (Link attr text) h = absurd (false≢true h)
 
 file_valid : (limits : Limits) (A : List Entry) (i : ℕ) (a : Attr) (bytes : List ℕ) → Valid limits A → i < length A → is_file (entry_at A i) ≡ true →
-    IsAttr a → length bytes ≤ 1048576 → used A + length bytes ≤ limits.t + length (bytes_of (entry_at A i)) →
+    IsAttr a → length bytes ≤ file_limit → used A + length bytes ≤ limits.t + length (bytes_of (entry_at A i)) →
     Valid limits (set A i (record { generation = (entry_at A i).generation; object = File a bytes }))
 file_valid limits A i a bytes valid below file ok short room =
     let e : Entry = record { generation = (entry_at A i).generation; object = File a bytes } in
@@ -75,7 +76,7 @@ file_valid limits A i a bytes valid below file ok short room =
     let rows = ap length facts.names in
     valid_like limits A i e valid below
     (record { generation = refl; names = sym facts.names; dir = sym facts.dir; null = sym facts.null })
-    (fits_from e (record { attr = ok; rising = refl; named = refl; bytes = le-leb (length bytes) 1048576 short }))
+    (fits_from e (record { attr = ok; rising = refl; named = refl; bytes = le-leb (length bytes) file_limit short }))
     (omega arith)
 
 length-resized : (size : ℕ) (bytes : List ℕ) → length (resized size bytes) ≡ size
@@ -100,14 +101,14 @@ positive : (n : ℕ) → (n == 0) ≡ false → 0 < n
 positive zero h = absurd (true≢false h)
 positive (suc n) h = omega arith
 
-file_short : (e : Entry) → is_file e ≡ true → nat_le (length (bytes_of e)) (most_bytes e) ≡ true → length (bytes_of e) ≤ 1048576
+file_short : (e : Entry) → is_file e ≡ true → nat_le (length (bytes_of e)) (most_bytes e) ≡ true → length (bytes_of e) ≤ file_limit
 file_short e file h = go e.object file h
   where
     go : (o : Object) → is_file (record { generation = e.generation; object = o }) ≡ true →
         nat_le (length (bytes_of (record { generation = e.generation; object = o }))) (most_bytes (record { generation = e.generation; object = o })) ≡ true →
-        length (bytes_of (record { generation = e.generation; object = o })) ≤ 1048576
+        length (bytes_of (record { generation = e.generation; object = o })) ≤ file_limit
     go Null k h = absurd (false≢true k)
-    go (File attr bytes) k h = leb-true (length bytes) 1048576 h
+    go (File attr bytes) k h = leb-true (length bytes) file_limit h
     go (Dir attr names) k h = absurd (false≢true k)
     go (Link attr text) k h = absurd (false≢true k)
 
@@ -171,7 +172,7 @@ kept limits A cred t (create dir name sattr) moment fits valid f =
         (if b then is_some size && no_room A limits (length (bytes_of (entry_at A (target A (at A dir) name)))) (unwrap_or size 0) else no_new A limits (unwrap_or size 0)) ≡ false →
         Valid limits (changed (if b then
         (if is_some size then to_be (target A (at A dir) name) (with_bytes (resized (unwrap_or size 0)) t (entry_at A (target A (at A dir) name))) ∷ [] else [])
-        else adds A (at A dir) name t (File (new_attr 420 cred t sattr) (replicate (unwrap_or size 0) 0))) A)
+        else adds A (at A dir) name t (File (new_attr new_file_mode cred t sattr) (replicate (unwrap_or size 0) 0))) A)
     go true has None file big room = valid
     go true has (Some n) file big room =
         let i = target A (at A dir) name in
@@ -194,10 +195,10 @@ kept limits A cred t (create dir name sattr) moment fits valid f =
         let long = length-replicate {A = ℕ} n 0 in
         let small = ltb-false file_limit n big in
         let left = new.room in
-        adds_valid limits A d name t (File (new_attr 420 cred t sattr) (replicate n 0)) new.index moment valid live.below (is_directory (is_dir (entry_at A d)) f.1.0)
+        adds_valid limits A d name t (File (new_attr new_file_mode cred t sattr) (replicate n 0)) new.index moment valid live.below (is_directory (is_dir (entry_at A d)) f.1.0)
         (name_ok name f.1.1.0 bounds.0 f.1.1.1.0) (no_row name (names_of (entry_at A d)) has) new.free_at refl refl
-        (fits_from (made (File (new_attr 420 cred t sattr) (replicate n 0)) (entry_at A new.index))
-        (record { attr = attr_new 420 cred t sattr refl moment bounds.1; rising = refl; named = refl; bytes = le-leb (length (replicate n 0)) 1048576 (omega arith) })) (omega arith)
+        (fits_from (made (File (new_attr new_file_mode cred t sattr) (replicate n 0)) (entry_at A new.index))
+        (record { attr = attr_new new_file_mode cred t sattr refl moment bounds.1; rising = refl; named = refl; bytes = le-leb (length (replicate n 0)) file_limit (omega arith) })) (omega arith)
 kept limits A cred t (remove dir name) moment fits valid f =
     let d = at A dir in
     let i = target A d name in
@@ -293,21 +294,21 @@ kept limits A cred t (link node dir name) moment fits valid f =
 kept limits A cred t (symlink dir name text sattr) moment fits valid f =
     let d = at A dir in
     let live = live_at A dir f.0 in
-    let bounds = and_parts (nat_le (length name) 255 && nat_le (length text) 1024) (sattr_fits sattr) fits in
-    let lengths = and_parts (nat_le (length name) 255) (nat_le (length text) 1024) bounds.0 in
+    let bounds = and_parts (nat_le (length name) 255 && nat_le (length text) text_limit) (sattr_fits sattr) fits in
+    let lengths = and_parts (nat_le (length name) 255) (nat_le (length text) text_limit) bounds.0 in
     let new = new_is A limits (length text) f.1.1.1.1.1.0 in
     let left = new.room in
-    adds_valid limits A d name t (Link (new_attr 511 cred t sattr) text) new.index moment valid live.below (is_directory (is_dir (entry_at A d)) f.1.0)
+    adds_valid limits A d name t (Link (new_attr open_mode cred t sattr) text) new.index moment valid live.below (is_directory (is_dir (entry_at A d)) f.1.0)
     (name_ok name f.1.1.0 lengths.0 f.1.1.1.0) (no_row name (names_of (entry_at A d)) f.1.1.1.1.0) new.free_at refl refl
-    (fits_from (made (Link (new_attr 511 cred t sattr) text) (entry_at A new.index)) (record { attr = attr_new 511 cred t sattr refl moment bounds.1; rising = refl; named = refl; bytes = lengths.1 })) (omega arith)
+    (fits_from (made (Link (new_attr open_mode cred t sattr) text) (entry_at A new.index)) (record { attr = attr_new open_mode cred t sattr refl moment bounds.1; rising = refl; named = refl; bytes = lengths.1 })) (omega arith)
 kept limits A cred t (make_dir dir name sattr) moment fits valid f =
     let d = at A dir in
     let live = live_at A dir f.0 in
     let bounds = and_parts (nat_le (length name) 255) (sattr_fits sattr) fits in
     let new = new_is A limits 0 f.1.1.1.1.1.0 in
-    adds_valid limits A d name t (Dir (new_attr 493 cred t sattr) []) new.index moment valid live.below (is_directory (is_dir (entry_at A d)) f.1.0)
+    adds_valid limits A d name t (Dir (new_attr new_dir_mode cred t sattr) []) new.index moment valid live.below (is_directory (is_dir (entry_at A d)) f.1.0)
     (name_ok name f.1.1.0 bounds.0 f.1.1.1.0) (no_row name (names_of (entry_at A d)) f.1.1.1.1.0) new.free_at refl refl
-    (fits_from (made (Dir (new_attr 493 cred t sattr) []) (entry_at A new.index)) (record { attr = attr_new 493 cred t sattr refl moment bounds.1; rising = refl; named = refl; bytes = refl })) new.room
+    (fits_from (made (Dir (new_attr new_dir_mode cred t sattr) []) (entry_at A new.index)) (record { attr = attr_new new_dir_mode cred t sattr refl moment bounds.1; rising = refl; named = refl; bytes = refl })) new.room
 kept limits A cred t (remove_dir dir name) moment fits valid f =
     let d = at A dir in
     let i = target A d name in

@@ -9,6 +9,7 @@ use Rattle.abs_model.specs.declared.entry.NameRow.{NameRow}
 use Rattle.abs_model.specs.declared.entry.Object.TheVariants.{Null, File, Dir, Link}
 use Rattle.abs_model.specs.declared.entry.Entry.{Entry}
 use Rattle.abs_model.specs.declared.entry.Change.{Change}
+use Rattle.abs_model.specs.Numbers.{no_type, file_type, file_mode, dir_type, dir_mode, link_type, link_mode, open_mode}
 use Rattle.abs_model.specs.Objects.{is_null, is_dir, names_of, used_by, row_of, zero_attr, zero_time}
 
 -- an entry that was never taken
@@ -17,7 +18,7 @@ null_entry = record { generation = 0; object = Null }
 
 -- a directory of mode 0777 without names
 abbrev pub empty_root : Entry
-empty_root = record { generation = 1; object = Dir (record { mode = 511; uid = 0; gid = 0; atime = zero_time; mtime = zero_time; ctime = zero_time }) [] }
+empty_root = record { generation = 1; object = Dir (record { mode = open_mode; uid = 0; gid = 0; atime = zero_time; mtime = zero_time; ctime = zero_time }) [] }
 
 -- the array with which a service begins
 abbrev pub empty_array : ℕ → List Entry
@@ -122,8 +123,8 @@ fattr_by a ftype kind_bits nlink size i = record {
 -- the attributes of what stands at an index, by its kind
 abbrev pub fattr : List Entry → ℕ → Fattr
 fattr A i = elim (entry_at A i).object [
-  | Null ↦ fattr_by zero_attr 0 0 0 0 i
-  | File attr bytes ↦ fattr_by attr 1 0x8000 (links A i) (length bytes) i
-  | Dir attr names ↦ fattr_by attr 2 0x4000 (2 + subdirs A names) (512 + 32 * length names) i
-  | Link attr text ↦ fattr_by attr 5 0xa000 (links A i) (length text) i
+  | Null ↦ fattr_by zero_attr no_type 0 0 0 i
+  | File attr bytes ↦ fattr_by attr file_type file_mode (links A i) (length bytes) i
+  | Dir attr names ↦ fattr_by attr dir_type dir_mode (2 + subdirs A names) (512 + 32 * length names) i
+  | Link attr text ↦ fattr_by attr link_type link_mode (links A i) (length text) i
 ]

@@ -6,6 +6,7 @@ use Rattle.nfs2_types.specs.declared.NfsResult.TheVariants.{Entries}
 use Rattle.abs_model.specs.declared.entry.NameRow.{NameRow}
 use Rattle.abs_model.specs.declared.entry.Entry.{Entry}
 use Rattle.nfs2_types.specs.Names.{name_dot, name_dots}
+use Rattle.abs_model.specs.Numbers.{transfer_limit}
 use Rattle.abs_model.specs.Objects.{names_of}
 use Rattle.abs_model.specs.Array.{entry_at, parent}
 
@@ -37,7 +38,7 @@ fitting room (e ∷ es) = if nat_le (room_of e) room then e ∷ fitting (room - 
 abbrev pub page : List ListEntry → ℕ → ℕ → NfsResult
 page es cookie count =
     let rest = drop cookie es in
-    let given = fitting (min count 8192 - 8) rest in
+    let given = fitting (min count transfer_limit - 8) rest in
     Entries given (length given == length rest)
 
 -- the answer of a directory to a cookie and a count

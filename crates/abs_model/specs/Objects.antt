@@ -12,6 +12,7 @@ use Rattle.abs_model.specs.declared.entry.Attr.{Attr}
 use Rattle.abs_model.specs.declared.entry.NameRow.{NameRow}
 use Rattle.abs_model.specs.declared.entry.Object.TheVariants.{Null, File, Dir, Link}
 use Rattle.abs_model.specs.declared.entry.Entry.{Entry}
+use Rattle.abs_model.specs.Numbers.{name_space}
 
 -- nothing stands there; a regular file, a directory, a symbolic link does
 abbrev pub is_null : Entry → Bool
@@ -36,7 +37,7 @@ bytes_of e = elim e.object [ Null ↦ [] | File attr bytes ↦ bytes | Dir attr 
 
 -- what an entry counts of the space
 abbrev pub used_by : Entry → ℕ
-used_by e = length (bytes_of e) + 512 * length (names_of e)
+used_by e = length (bytes_of e) + name_space * length (names_of e)
 
 -- the first moment
 abbrev pub zero_time : Time

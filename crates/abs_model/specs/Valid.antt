@@ -7,6 +7,7 @@ use Rattle.nfs2_types.specs.Times.{is_time}
 use Rattle.abs_model.specs.declared.entry.Attr.{Attr}
 use Rattle.abs_model.specs.declared.entry.NameRow.{NameRow}
 use Rattle.abs_model.specs.declared.entry.Entry.{Entry}
+use Rattle.abs_model.specs.Numbers.{file_limit, text_limit}
 use Rattle.abs_model.specs.Objects.{is_null, is_dir, is_link, names_of, bytes_of, attr_of, name_lt}
 use Rattle.abs_model.specs.Array.{entry_at, has_row_to, links, used, is_named_by}
 
@@ -19,7 +20,7 @@ is_rising (r ∷ rs) = list_all (λ s. name_lt r.name s.name) rs && is_rising rs
 
 -- the bytes that an entry may have: of a link's text, or of a file
 abbrev pub most_bytes : Entry → ℕ
-most_bytes e = if is_link e then 1024 else 1048576
+most_bytes e = if is_link e then text_limit else file_limit
 
 -- the microseconds of its times are below a million
 abbrev pub times_fit : Attr → Bool

@@ -3,9 +3,14 @@
 
 mod entry;
 mod laws;
+mod numbers;
 
 pub use entry::{Attr, Change, Entry, NameRow, Names, Object};
 pub use laws::{as_long, empty_is_valid, stays_valid, told_within, untold_stays};
+pub use numbers::{
+    DIR_MODE, DIR_TYPE, FILE_LIMIT, FILE_MODE, FILE_TYPE, LINK_MODE, LINK_TYPE, NAME_SPACE,
+    NEW_DIR_MODE, NEW_FILE_MODE, OPEN_MODE, TEXT_LIMIT, TRANSFER_LIMIT,
+};
 
 #[cfg(test)]
 mod tests;
