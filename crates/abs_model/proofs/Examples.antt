@@ -1,5 +1,9 @@
 -- Worked examples: what the machine answers, by computing. A service of sixteen entries and 65,536 bytes; the call
 -- in place p comes at second p from a caller without a name (65534), and sets nothing that is not said.
+pub mod Attributes
+pub mod Histories
+pub mod Orders
+pub mod Service
 use Rattle.std.proofs.Common.{◌≡◌, ℕ, zero, suc, ◌+◌, List, [], ◌∷◌, ◌++◌, true, false, refl, replicate, Option, Some, None}
 use Rattle.nfs2_types.specs.declared.Limits.{Limits}
 use Rattle.nfs2_types.specs.declared.Time.{Time}
@@ -17,19 +21,7 @@ use Rattle.nfs2_types.specs.Call.{Call, get_attr, set_attr, lookup, read, write,
 use Rattle.abs_model.specs.declared.entry.Entry.{Entry}
 use Rattle.abs_model.specs.Array.{empty_array}
 use Rattle.abs_model.specs.Machine.{array_after, effect, result_of, told, first_of, refusals}
-
-abbrev moment : ℕ → Time
-moment s = record { secs = s; micros = 0 }
-
-abbrev nobody : Cred
-nobody = record { uid = 65534; gid = 65534; gids = [] }
-
-abbrev nothing_set : Sattr
-nothing_set = record { mode = None; uid = None; gid = None; size = None; atime = Keep; mtime = Keep }
-
--- limits with this many bytes
-abbrev bytes_in_use : ℕ → Limits
-bytes_in_use t = record { n = 16; k = 4; t = t; f = 0 }
+use Rattle.abs_model.proofs.Examples.Service.{moment, nobody, nothing_set, bytes_in_use, handle, root, listed_as}
 
 -- the array after calls at the seconds from this one
 abbrev after : Limits → ℕ → List Call → List Entry → List Entry
@@ -49,13 +41,6 @@ statuses (_ ∷ rs) = 0 ∷ statuses rs
 
 abbrev results : List Call → List NfsResult
 results calls = results_from (bytes_in_use 65536) 1 calls (empty_array 16)
-
--- the handle of an index and a generation; the root's
-abbrev handle : ℕ → ℕ → List ℕ
-handle i g = handle_bytes (record { index = i; generation = g })
-
-abbrev root : List ℕ
-root = handle 0 1
 
 -- a name of one letter
 abbrev name : ℕ → List ℕ
@@ -82,10 +67,6 @@ attr ftype mode nlink owner size blocks fileid atime mtime ctime = record {
   ctime_secs = ctime;
   ctime_micros = 0;
 }
-
--- an entry of a list
-abbrev listed_as : ℕ → List ℕ → ℕ → ListEntry
-listed_as fileid name cookie = record { fileid = fileid; name = name; cookie = cookie }
 
 -- AT THE START
 
