@@ -1,5 +1,6 @@
 -- Worked examples: what the machine answers, by computing. A service of sixteen entries and 65,536 bytes; the call
 -- in place p comes at second p from a caller without a name (65534), and sets nothing that is not said.
+pub mod Arrays
 pub mod Attributes
 pub mod Histories
 pub mod Orders
