@@ -53,12 +53,12 @@ is_directory b h = not-false b h
 
 -- FILES
 
-record IsFile (e : Entry) : Type 0 where
-  names : names_of e ≡ []
-  dir : is_dir e ≡ false
-  null : is_null e ≡ false
+pub record IsFile (e : Entry) : Type 0 where
+  pub names : names_of e ≡ []
+  pub dir : is_dir e ≡ false
+  pub null : is_null e ≡ false
 
-file_facts : (e : Entry) → is_file e ≡ true → IsFile e
+pub file_facts : (e : Entry) → is_file e ≡ true → IsFile e
 file_facts e h = go e.object h
   where
     go : (o : Object) → is_file (record { generation = e.generation; object = o }) ≡ true → IsFile (record { generation = e.generation; object = o })
@@ -90,7 +90,7 @@ length-written offset piece bytes some =
     let rest = length-drop (offset + length piece) bytes in
     ap length (cond-false (length piece == 0) bytes (overwritten offset piece bytes) some) ∙ omega arith
 
-not_and : (a b : Bool) → a ≡ true → (a && b) ≡ false → b ≡ false
+pub not_and : (a b : Bool) → a ≡ true → (a && b) ≡ false → b ≡ false
 not_and a b yes_a h = ap (λ (x : Bool). x && b) (sym yes_a) ∙ h
 
 -- an empty directory has no row

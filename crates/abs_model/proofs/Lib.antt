@@ -5,13 +5,17 @@ pub mod EmptyFacts
 pub mod Examples
 pub mod Facts
 pub mod Kept
+pub mod Lasting
 pub mod Law
 pub mod Moved
 pub mod Named
+pub mod Once
 pub mod Parents
+pub mod Passed
 pub mod Placed
 pub mod Reach
 pub mod RowLists
+pub mod Seen
 pub mod Shapes
 pub mod Steps
 pub mod Untold

@@ -1,7 +1,9 @@
 pub mod Array
 pub mod Bounds
+pub mod Histories
 pub mod Listed
 pub mod Machine
 pub mod Numbers
 pub mod Objects
+pub mod Shown
 pub mod Valid
