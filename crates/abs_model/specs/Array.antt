@@ -1,5 +1,5 @@
--- The array as a whole: what handles name (RFC 1094, 2.3.3), what is free, what is used, and the attributes
--- that a client sees (RFC 1094, 2.3.5).
+-- The array as a whole: what handles name (RFC 1094, 2.3.3), what is free, what is used,
+-- and the attributes that a client sees (RFC 1094, 2.3.5).
 use Rattle.std.specs.Prelude.{ℕ, zero, suc, ◌+◌, ◌-◌, ◌*◌, ◌/◌, ◌^◌, List, [], ◌∷◌, Bool, not, ◌&&◌, ◌||◌, ◌==◌, nat_lt, if◌then◌else◌, length, get_or, set, replicate, is_some, Option, Some, None, unwrap_or, option_map, option_and_then, count_by, sum_by, position}
 use Rattle.std.specs.List.{list_any}
 use Rattle.nfs2_types.specs.declared.Fattr.{Fattr}
@@ -10,7 +10,7 @@ use Rattle.abs_model.specs.declared.entry.Object.TheVariants.{Null, File, Dir, L
 use Rattle.abs_model.specs.declared.entry.Entry.{Entry}
 use Rattle.abs_model.specs.declared.entry.Change.{Change}
 use Rattle.abs_model.specs.Numbers.{no_type, file_type, file_mode, dir_type, dir_mode, link_type, link_mode, open_mode}
-use Rattle.abs_model.specs.Objects.{is_null, is_dir, names_of, used_by, row_of, zero_attr, zero_time}
+use Rattle.abs_model.specs.Objects.{is_null, is_dir, names_of, used_by, row_of, zero_attr}
 
 -- an entry that was never taken
 abbrev pub null_entry : Entry
@@ -18,7 +18,7 @@ null_entry = record { generation = 0; object = Null }
 
 -- a directory of mode 0777 without names
 abbrev pub empty_root : Entry
-empty_root = record { generation = 1; object = Dir (record { mode = open_mode; uid = 0; gid = 0; atime = zero_time; mtime = zero_time; ctime = zero_time }) [] }
+empty_root = record { generation = 1; object = Dir (record zero_attr { mode = open_mode }) [] }
 
 -- the array with which a service begins
 abbrev pub empty_array : ℕ → List Entry
@@ -74,7 +74,8 @@ is_named_by generation e = not (is_null e) && e.generation == generation
 
 -- the index that a handle names, where it is not stale
 abbrev pub live : List Entry → List ℕ → Option ℕ
-live A h = option_and_then (λ o. if is_named_by o.generation (entry_at A o.index) then Some o.index else None) (oid_in h)
+live A h =
+    option_and_then (λ o. if is_named_by o.generation (entry_at A o.index) then Some o.index else None) (oid_in h)
 
 -- the same, with the array's length for a stale handle
 abbrev pub at : List Entry → List ℕ → ℕ

@@ -1,4 +1,5 @@
--- The machine (RFC 1094, 2.2): for each call its refusals in order, what it changes, and what it answers.
+-- The machine (RFC 1094, 2.2): for each call its refusals in order, what it changes,
+-- and what it answers.
 use Rattle.std.specs.Prelude.{ℕ, ◌+◌, ◌-◌, ◌/◌, min, max, List, [], ◌∷◌, ◌++◌, Bool, not, ◌&&◌, ◌||◌, ◌==◌, nat_lt, nat_le, if◌then◌else◌, length, take, drop, replicate, is_some, is_none, Option, Some, None, unwrap_or, map, bytes_eq}
 use Rattle.nfs2_types.specs.declared.Limits.{Limits}
 use Rattle.nfs2_types.specs.declared.Stat.{Stat}
@@ -298,7 +299,8 @@ answer A B limits (lookup dir name) =
     node_at B (if bytes_eq name name_dot then d else if bytes_eq name name_dots then parent A d else target A d name)
 answer A B limits (read_link node) = Result.Path (bytes_of (entry_at A (at A node)))
 answer A B limits (read file offset count) =
-    Result.Content (fattr B (at A file)) (take (min count transfer_limit) (drop offset (bytes_of (entry_at A (at A file)))))
+    let bytes = bytes_of (entry_at A (at A file)) in
+    Result.Content (fattr B (at A file)) (take (min count transfer_limit) (drop offset bytes))
 answer A B limits (write file offset bytes) = Result.Attr (fattr B (at A file))
 answer A B limits (create dir name sattr) = node_at B (found_or_made A (at A dir) name)
 answer A B limits (remove dir name) = Result.Done

@@ -1,4 +1,5 @@
--- Entries by themselves: kinds, names, attributes (RFC 1094, 2.3.5 and 2.3.6), and how a call changes one.
+-- Entries by themselves: kinds, names, attributes (RFC 1094, 2.3.5 and 2.3.6),
+-- and how a call changes one.
 use Rattle.std.specs.Prelude.{ℕ, ◌+◌, ◌*◌, List, [], ◌∷◌, Bool, true, false, not, ◌==◌, if◌then◌else◌, length, filter, is_some, Option, unwrap_or, bytes_eq, find}
 use Rattle.std.specs.Ordering.{nat_cmp, is_lt}
 use Rattle.std.specs.Cmp.Lexicographic.{slice_cmp}

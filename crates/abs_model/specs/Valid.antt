@@ -50,8 +50,9 @@ Walk A (suc k) here i = (next : ℕ) × (has_row_to next (entry_at A here) ≡ t
 abbrev pub IsReached : List Entry → ℕ → Type 0
 IsReached A i = (k : ℕ) × (k < length A) × Walk A k 0 i
 
--- It has N entries, the first a directory; each entry fits; names lead to live entries of their generation;
--- each live entry is reached from the first; each other directory has one name; and at most T bytes are in use.
+-- It has N entries, the first a directory; each entry fits; names lead to live entries of their
+-- generation; each live entry is reached from the first; each other directory has one name; and at
+-- most T bytes are in use.
 pub record Valid (limits : Limits) (A : List Entry) : Type 0 where
   pub size : length A ≡ limits.n
   pub root : is_dir (entry_at A 0) ≡ true

@@ -22,14 +22,16 @@ pub fn stays_valid()
 
 /// An entry that is not told is unchanged.
 pub fn untold_stays()
-    ensures { (limits : Limits) (array : List Entry) (cred : Cred) (t : Time) (call : Call) (index : ℕ) →
+    ensures { (limits : Limits) (array : List Entry) (cred : Cred) (t : Time) (call : Call)
+        (index : ℕ) →
         (Contains (told array limits cred t call) index → ⊥) →
         entry_at (array_after array limits cred t call) index ≡ entry_at array index }
 {}
 
 /// Each index that is told lies in the array.
 pub fn told_within()
-    ensures { (limits : Limits) (array : List Entry) (cred : Cred) (t : Time) (call : Call) (index : ℕ) →
+    ensures { (limits : Limits) (array : List Entry) (cred : Cred) (t : Time) (call : Call)
+        (index : ℕ) →
         Valid limits array → Contains (told array limits cred t call) index → index < length array }
 {}
 
@@ -41,7 +43,8 @@ pub fn told_once()
 
 /// No generation falls, and one rises with each object that takes a null entry.
 pub fn goes_on()
-    ensures { (limits : Limits) (array : List Entry) (cred : Cred) (t : Time) (call : Call) (index : ℕ) →
+    ensures { (limits : Limits) (array : List Entry) (cred : Cred) (t : Time) (call : Call)
+        (index : ℕ) →
         GoesOn (entry_at array index) (entry_at (array_after array limits cred t call) index) }
 {}
 

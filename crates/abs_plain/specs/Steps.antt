@@ -26,7 +26,8 @@ read_answer A limits (read_dir dir cookie count) = Some (answer A A limits (read
 read_answer A limits (stat_fs node) = Some (answer A A limits (stat_fs node))
 read_answer A limits _ = None
 
--- the index of which the answer of a call that changes the array speaks; the root's where it speaks of none
+-- the index of which the answer of a call that changes the array speaks;
+-- the root's where it speaks of none
 abbrev pub place_of : List Entry → Call → ℕ
 place_of A (set_attr node sattr) = at A node
 place_of A (write file offset bytes) = at A file

@@ -3,7 +3,7 @@
 ghost use Rattle.std.specs.Prelude.{◌≡◌, ◌≤◌, ℕ, IfOk, slice_set};
 ghost use Rattle.abs_model.specs.Array.{changed, empty_array, empty_root};
 
-use abs_model::{Attr, Change, Entry, Names, Object};
+use abs_model::{Attr, Change, Entry, Names, OPEN_MODE, Object};
 use nfs2_types::{NoMemory, Time};
 use std::alloc::{AllocError, Global};
 use std::marker::Model;
@@ -72,7 +72,7 @@ fn empty_root(alloc: Global) -> Entry
         generation: 1,
         object: Object::Dir {
             attr: Attr {
-                mode: 0o777,
+                mode: OPEN_MODE,
                 uid: 0,
                 gid: 0,
                 atime: zero,

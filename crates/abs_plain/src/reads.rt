@@ -7,7 +7,7 @@ ghost use Rattle.abs_plain.specs.Ready.{CanRead};
 ghost use Rattle.abs_plain.specs.Steps.{found, read_answer, space};
 
 use crate::bytes::tail;
-use abs_model::Entry;
+use abs_model::{Entry, TRANSFER_LIMIT};
 use abs_queries::listed::listed;
 use abs_queries::look::{at, bytes_at, parent, target, used};
 use abs_queries::seen::{fattr, node_at};
@@ -41,7 +41,10 @@ fn head(bytes: &[u8], most: usize) -> &[u8]
 fn piece(alloc: Global, bytes: &[u8], offset: u32, count: u32) -> Result<Blob, AllocError>
     ensures { IfOk result (λ b. b ≡ take (min count 8192) (drop offset bytes.now)) }
 {
-    let wanted = head(tail(bytes, offset as usize), count.min(8192) as usize);
+    let wanted = head(
+        tail(bytes, offset as usize),
+        count.min(TRANSFER_LIMIT) as usize,
+    );
     Ok(Blob::new(Vec::from_slice(alloc, wanted)?))
 }
 
@@ -53,7 +56,7 @@ fn space(entries: &[Entry], limits: &Limits) -> NfsResult
     let t = limits.t;
     let left = ((u128::from(t) - used(entries)) / 512) as u32;
     NfsResult::Space {
-        tsize: 8192,
+        tsize: TRANSFER_LIMIT,
         bsize: 512,
         blocks: t / 512,
         bfree: left,

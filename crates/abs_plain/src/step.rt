@@ -50,8 +50,8 @@ fn step(
     Ok(writes::answer(array.entries(), i, args))
 }
 
-/// Does one call at a time, on behalf of a caller: gives the result of the call, and leaves the array after it.
-/// Without memory the array is as it was.
+/// Does one call at a time, on behalf of a caller: gives the result of the call, and leaves the
+/// array after it. Without memory the array is as it was.
 pub fn plain_step(
     alloc: Global,
     array: &mut AbsArray,

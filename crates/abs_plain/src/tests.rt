@@ -62,7 +62,8 @@ fn gives(
     Ok(())
 }
 
-/// The attributes of an object of nobody, whose time of access and time of change are at these seconds.
+/// The attributes of an object of nobody, whose time of access and time of change are at these
+/// seconds.
 fn attr(ftype: u32, mode: u32, nlink: u32, size: u32, fileid: u32, made: u32, now: u32) -> Fattr {
     Fattr {
         ftype,

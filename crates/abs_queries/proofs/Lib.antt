@@ -1,4 +1,6 @@
+mod Climbing
 pub mod Ends
 mod ListedFacts
 mod MarkFacts
 mod Orderly
+mod Rising

@@ -64,6 +64,14 @@ more_complete A old new k n long next complete grows spreads (suc m) i le below 
     let d_below : last.0 < length A = live_below A last.0 (named_lives A last.0 i last.2) in
     spreads last.0 i (omega arith) (omega arith) (complete m last.0 (omega arith) d_below last.1) last.2
 
+-- a round that marks nothing new has marked all
+pub closed_complete : (A : List Entry) (marks : List Bool) (k n : ℕ) → length marks ≡ length A → IsComplete A marks k →
+    ((d i : ℕ) → d < length marks → i < length marks → is_marked marks d ≡ true → has_row_to i (entry_at A d) ≡ true → is_marked marks i ≡ true) →
+    IsComplete A marks (k + n)
+closed_complete A marks k zero long complete spreads = λ m i le. complete m i (omega arith)
+closed_complete A marks k (suc n) long complete spreads =
+    more_complete A marks marks (k + n) (k + suc n) long (omega arith) (closed_complete A marks k n long complete spreads) (λ i h. h) spreads
+
 pub shows_all : (A : List Entry) (marks : List Bool) (k : ℕ) → length A ≤ k + 1 → IsSound A marks → IsComplete A marks k → Shows A marks
 shows_all A marks k enough sound complete i below =
     ((λ h. let w = sound i h in reached_in_time A w.0 i below w.1), (λ r. complete r.0 i (omega (arith, r.1)) below r.2))

@@ -1,4 +1,5 @@
--- Marks on the entries that are known to be reached from the root, and the other rules of a valid array.
+-- Marks on the entries that are known to be reached from the root,
+-- and the other rules of a valid array.
 use Rattle.std.specs.Prelude.{ℕ, ◌<◌, ◌≤◌, ◌≡◌, ◌≢◌, nat_le, List, Bool, true, false, length, get_or}
 use Rattle.std.specs.List.{list_all}
 use Rattle.nfs2_types.specs.declared.Limits.{Limits}
@@ -21,7 +22,8 @@ IsComplete A marks k = (m i : ℕ) → m ≤ k → i < length A → Walk A m 0 i
 
 -- the marks are those of what is reached
 abbrev pub Shows : List Entry → List Bool → Type 0
-Shows A marks = (i : ℕ) → i < length A → (is_marked marks i ≡ true → IsReached A i) × (IsReached A i → is_marked marks i ≡ true)
+Shows A marks = (i : ℕ) → i < length A →
+    (is_marked marks i ≡ true → IsReached A i) × (IsReached A i → is_marked marks i ≡ true)
 
 -- all rules of a valid array but that on what is reached
 pub record IsOrderly (limits : Limits) (A : List Entry) : Type 0 where

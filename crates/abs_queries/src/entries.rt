@@ -4,7 +4,7 @@ ghost use Rattle.std.specs.Prelude.{◌≡◌, ◌<◌, ◌≤◌, ◌^◌, ℕ,
 ghost use Rattle.abs_model.specs.Objects.{is_null, is_file, is_dir, is_link, names_of, bytes_of, attr_of, used_by};
 ghost use Rattle.abs_model.specs.Array.{can_take};
 
-use abs_model::{Attr, Entry, NameRow, Object};
+use abs_model::{Attr, Entry, NAME_SPACE, NameRow, Object};
 use nfs2_types::Time;
 
 /// Nothing stands there.
@@ -61,7 +61,7 @@ pub fn used_by(e: &Entry) -> u128
     ensures number { result ≡ used_by e.now }
     ensures bound { result < 2 ^ 80 }
 {
-    bytes_of(e).len() as u128 + 512 * names_of(e).len() as u128
+    bytes_of(e).len() as u128 + u128::from(NAME_SPACE) * names_of(e).len() as u128
 }
 
 /// A null entry whose generation can rise.

@@ -1,5 +1,5 @@
-//! Questions that a program asks of an array of the abstract service: what stands there, what a client sees of it,
-//! which calls are refused, and whether it is valid.
+//! Questions that a program asks of an array of the abstract service: what stands there, what a
+//! client sees of it, which calls are refused, and whether it is valid.
 #![tactic(auto)]
 
 pub mod entries;

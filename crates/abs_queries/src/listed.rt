@@ -5,7 +5,7 @@ ghost use Rattle.abs_model.specs.Listed.{dots, room_of, fitting, listing, page, 
 ghost use Rattle.abs_queries.specs.Listable.{CanList};
 
 use crate::look::{names_at, parent};
-use abs_model::Entry;
+use abs_model::{Entry, TRANSFER_LIMIT};
 use nfs2_types::{Blob, ListEntry, Listing, NfsResult};
 use std::alloc::{AllocError, Global};
 
@@ -106,7 +106,7 @@ pub fn page(
     ensures { IfOk result (λ r. r ≡ page entries.now cookie count) }
 {
     let rest = behind(entries, cookie as usize);
-    let room = count.min(8192).saturating_sub(8);
+    let room = count.min(TRANSFER_LIMIT).saturating_sub(8);
     let n = fitting(u128::from(room), rest);
     let given = copied(alloc, &rest[..n])?;
     Ok(NfsResult::Entries {

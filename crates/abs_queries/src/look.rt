@@ -179,5 +179,12 @@ fn namer(entries: &[Entry], i: usize) -> Option<usize>
 pub fn climbs_to(entries: &[Entry], i: usize, steps: usize, here: usize) -> bool
     ensures { result ≡ climbs_to entries.now i steps here }
 {
-    here == i || (steps > 0 && climbs_to(entries, i, steps - 1, parent(entries, here)))
+    let mut at = here;
+    for step in 0..steps {
+        if at == i {
+            return true;
+        }
+        at = parent(entries, at);
+    }
+    at == i
 }

@@ -6,15 +6,13 @@ ghost use Rattle.abs_model.specs.Array.{used};
 ghost use Rattle.abs_model.specs.Machine.{first_of, refusals, no_room, no_new};
 
 use crate::look::{free, used};
-use abs_model::Entry;
+use abs_model::{Entry, NAME_SPACE};
 use nfs2_types::{Args, Limits, Stat};
 
 mod files;
 mod names;
 mod objects;
-
-/// The largest file.
-const FILE_LIMIT: u64 = 1048576;
+mod parts;
 
 /// More than T would be used after `goes` bytes go and `comes` bytes come.
 fn no_room(entries: &[Entry], limits: &Limits, goes: u64, comes: u64) -> bool
@@ -31,7 +29,7 @@ fn no_new(entries: &[Entry], limits: &Limits, bytes: u64) -> bool
     requires few { 512 + bytes < 2 ^ 64 }
     ensures { result ≡ no_new entries.now limits.now bytes }
 {
-    free(entries).is_none() || no_room(entries, limits, 0, 512 + bytes)
+    free(entries).is_none() || no_room(entries, limits, 0, u64::from(NAME_SPACE) + bytes)
 }
 
 /// The status with which a call is refused, where it is.
@@ -42,40 +40,33 @@ pub fn refusal(entries: &[Entry], limits: &Limits, args: &Args) -> Option<Stat>
 {
     match args {
         Args::Null | Args::Root | Args::WriteCache => None,
-        Args::GetAttr { node } => objects::get_attr(entries, limits, node),
+        Args::GetAttr { node } | Args::StatFs { node } => parts::node_status(entries, node),
         Args::SetAttr { node, sattr } => objects::set_attr(entries, limits, node, sattr),
-        Args::Lookup { dir, name } => objects::lookup(entries, limits, dir, name),
-        Args::ReadLink { node } => objects::read_link(entries, limits, node),
-        Args::Read {
-            file,
-            offset,
-            count,
-        } => files::read(entries, limits, file, *offset, *count),
+        Args::Lookup { dir, name } => objects::lookup(entries, dir, name),
+        Args::ReadLink { node } => objects::read_link(entries, node),
+        Args::Read { file, .. } => parts::file_status(entries, file),
         Args::Write {
             file,
             offset,
             bytes,
         } => files::write(entries, limits, file, *offset, bytes),
         Args::Create { dir, name, sattr } => files::create(entries, limits, dir, name, sattr),
-        Args::Remove { dir, name } => names::remove(entries, limits, dir, name),
+        Args::Remove { dir, name } => names::remove(entries, dir, name),
         Args::Rename {
             from,
             name,
             to,
             to_name,
-        } => names::rename(entries, limits, from, name, to, to_name),
+        } => names::rename(entries, from, name, to, to_name),
         Args::Link { node, dir, name } => names::link(entries, limits, node, dir, name),
         Args::Symlink {
             dir,
             name,
             text,
-            sattr,
-        } => files::symlink(entries, limits, dir, name, text, sattr),
-        Args::MkDir { dir, name, sattr } => files::make_dir(entries, limits, dir, name, sattr),
-        Args::RmDir { dir, name } => names::remove_dir(entries, limits, dir, name),
-        Args::ReadDir { dir, cookie, count } => {
-            objects::read_dir(entries, limits, dir, *cookie, *count)
-        }
-        Args::StatFs { node } => objects::stat_fs(entries, limits, node),
+            ..
+        } => parts::new_name_status(entries, limits, dir, name, text.len() as u64),
+        Args::MkDir { dir, name, .. } => parts::new_name_status(entries, limits, dir, name, 0),
+        Args::RmDir { dir, name } => names::remove_dir(entries, dir, name),
+        Args::ReadDir { dir, .. } => parts::dir_status(entries, dir),
     }
 }

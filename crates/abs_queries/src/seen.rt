@@ -8,7 +8,9 @@ ghost use Rattle.abs_model.specs.Bounds.{HasBounds};
 
 use crate::entries::attr_of;
 use crate::look::{is_dir_at, links};
-use abs_model::{Attr, Entry, NameRow, Object};
+use abs_model::{
+    Attr, DIR_MODE, DIR_TYPE, Entry, FILE_MODE, FILE_TYPE, LINK_MODE, LINK_TYPE, NameRow, Object,
+};
 use nfs2_types::{Fattr, Handle, NfsResult, Oid, handle_of};
 
 /// The subdirectories among these names.
@@ -24,7 +26,6 @@ fn subdirs(entries: &[Entry], rows: &[NameRow]) -> usize
 /// The words of the attributes.
 fn fattr_by(a: &Attr, ftype: u32, kind_bits: u32, nlink: u32, size: u32, i: u32) -> Fattr
     requires mode { kind_bits + a.now.mode < 2 ^ 32 }
-    requires round { size + 511 < 2 ^ 32 }
     requires index { i + 1 < 2 ^ 32 }
     ensures { result ≡ fattr_by a.now ftype kind_bits nlink size i }
 {
@@ -37,7 +38,7 @@ fn fattr_by(a: &Attr, ftype: u32, kind_bits: u32, nlink: u32, size: u32, i: u32)
         size,
         blocksize: 4096,
         rdev: 0,
-        blocks: (size + 511) / 512,
+        blocks: size.div_ceil(512),
         fsid: 1,
         fileid: i + 1,
         atime_secs: a.atime.secs,
@@ -59,8 +60,8 @@ pub fn fattr(entries: &[Entry], i: usize) -> Fattr
         Object::Null => fattr_by(&attr_of(e), 0, 0, 0, 0, i as u32),
         Object::File { attr, bytes } => fattr_by(
             attr,
-            1,
-            0x8000,
+            FILE_TYPE,
+            FILE_MODE,
             links(entries, i) as u32,
             bytes.len() as u32,
             i as u32,
@@ -69,8 +70,8 @@ pub fn fattr(entries: &[Entry], i: usize) -> Fattr
             let rows = names.as_slice();
             fattr_by(
                 attr,
-                2,
-                0x4000,
+                DIR_TYPE,
+                DIR_MODE,
                 2 + subdirs(entries, rows) as u32,
                 512 + 32 * rows.len() as u32,
                 i as u32,
@@ -78,8 +79,8 @@ pub fn fattr(entries: &[Entry], i: usize) -> Fattr
         }
         Object::Link { attr, text } => fattr_by(
             attr,
-            5,
-            0xa000,
+            LINK_TYPE,
+            LINK_MODE,
             links(entries, i) as u32,
             text.len() as u32,
             i as u32,

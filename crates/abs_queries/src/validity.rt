@@ -12,9 +12,9 @@ ghost use Rattle.abs_queries.specs.Marks.{is_marked, IsOrderly};
 use crate::entries::{attr_of, bytes_of, is_link, is_null, names_of, used_by};
 use crate::look::is_dir_at;
 use crate::marking::reached;
-use crate::names::{is_bad, is_dot, name_lt, rows_to};
-use abs_model::{Attr, Entry, NameRow};
-use nfs2_types::{Limits, NoMemory, Time};
+use crate::names::{name_lt, rows_to};
+use abs_model::{Attr, Entry, FILE_LIMIT, NameRow, TEXT_LIMIT};
+use nfs2_types::{Limits, NoMemory, Time, is_bad, is_dot};
 use std::alloc::{AllocError, Global};
 
 /// A name that a directory may have.
@@ -24,21 +24,16 @@ fn is_name(name: &[u8]) -> bool
     !is_bad(name) && name.len() <= 255 && !is_dot(name)
 }
 
-/// Each of these names stands above one.
-fn all_above(name: &[u8], rows: &[NameRow]) -> bool
-    ensures { result ≡ list_all (λ s. name_lt name.now s.name) rows.now }
-{
-    rows.iter().all(|s| name_lt(name, s.name.as_slice()))
-}
-
-/// Each name stands below all that follow it.
+/// Each name stands below the next, and so below all that follow it.
 fn is_rising(rows: &[NameRow]) -> bool
     ensures { result ≡ is_rising rows.now }
 {
-    match rows {
-        [] => true,
-        [r, rest @ ..] => all_above(r.name.as_slice(), rest) && is_rising(rest),
+    for i in 1..rows.len() {
+        if !name_lt(rows[i - 1].name.as_slice(), rows[i].name.as_slice()) {
+            return false;
+        }
     }
+    true
 }
 
 fn all_names(rows: &[NameRow]) -> bool
@@ -51,7 +46,8 @@ fn all_names(rows: &[NameRow]) -> bool
 fn most_bytes(e: &Entry) -> usize
     ensures { result ≡ most_bytes e.now }
 {
-    if is_link(e) { 1024 } else { 1048576 }
+    let most = if is_link(e) { TEXT_LIMIT } else { FILE_LIMIT };
+    most as usize
 }
 
 fn is_time(t: Time) -> bool
@@ -122,8 +118,10 @@ fn one_link(entries: &[Entry], i: usize) -> bool
 
 /// Each directory but the root has one name.
 fn one_name_each(entries: &[Entry]) -> bool
-    ensures yes { result ≡ true → (i : ℕ) → i < length entries.now → is_dir (entry_at entries.now i) ≡ true → i ≢ 0 → links entries.now i ≡ 1 }
-    ensures no { result ≡ false → (i : ℕ) × (is_dir (entry_at entries.now i) ≡ true) × (i ≢ 0) × (links entries.now i ≢ 1) }
+    ensures yes { result ≡ true → (i : ℕ) → i < length entries.now →
+        is_dir (entry_at entries.now i) ≡ true → i ≢ 0 → links entries.now i ≡ 1 }
+    ensures no { result ≡ false → (i : ℕ) × (is_dir (entry_at entries.now i) ≡ true) ×
+        (i ≢ 0) × (links entries.now i ≢ 1) }
 {
     for i in 1..entries.len() {
         if is_dir_at(entries, i) && !one_link(entries, i) {
@@ -149,8 +147,10 @@ fn has_room(entries: &[Entry], t: u32) -> bool
 
 fn marked_or_null(entries: &[Entry], marks: &[bool]) -> bool
     requires { length marks.now ≡ length entries.now }
-    ensures yes { result ≡ true → (i : ℕ) → i < length entries.now → is_null (entry_at entries.now i) ≡ false → is_marked marks.now i ≡ true }
-    ensures no { result ≡ false → (i : ℕ) × (i < length entries.now) × (is_null (entry_at entries.now i) ≡ false) × (is_marked marks.now i ≡ false) }
+    ensures yes { result ≡ true → (i : ℕ) → i < length entries.now →
+        is_null (entry_at entries.now i) ≡ false → is_marked marks.now i ≡ true }
+    ensures no { result ≡ false → (i : ℕ) × (i < length entries.now) ×
+        (is_null (entry_at entries.now i) ≡ false) × (is_marked marks.now i ≡ false) }
 {
     for i in 0..entries.len() {
         if !is_null(&entries[i]) && !marks[i] {
@@ -163,8 +163,10 @@ fn marked_or_null(entries: &[Entry], marks: &[bool]) -> bool
 /// Each live entry is reached from the root.
 fn all_reached(alloc: Global, entries: &[Entry]) -> Result<bool, AllocError>
     requires { 0 < length entries.now }
-    ensures yes { IfOk result (λ b. b ≡ true → (i : ℕ) → is_null (entry_at entries.now i) ≡ false → IsReached entries.now i) }
-    ensures no { IfOk result (λ b. b ≡ false → (i : ℕ) × (is_null (entry_at entries.now i) ≡ false) × (IsReached entries.now i → ⊥)) }
+    ensures yes { IfOk result (λ b. b ≡ true → (i : ℕ) →
+        is_null (entry_at entries.now i) ≡ false → IsReached entries.now i) }
+    ensures no { IfOk result (λ b. b ≡ false → (i : ℕ) ×
+        (is_null (entry_at entries.now i) ≡ false) × (IsReached entries.now i → ⊥)) }
 {
     let marks = reached(alloc, entries)?;
     Ok(marked_or_null(entries, marks.as_slice()))

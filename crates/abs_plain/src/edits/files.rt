@@ -10,7 +10,7 @@ ghost use Rattle.abs_plain.specs.Ready.{IsAt, CanAdd, CanCreate};
 use super::makes::adds;
 use crate::attrs::{new_attr, set_attr_of, with_attr, written_at};
 use crate::bytes::{resized, written};
-use abs_model::{Attr, Change, Entry, Object};
+use abs_model::{Attr, Change, Entry, NEW_FILE_MODE, Object};
 use abs_queries::entries::{attr_of, bytes_of};
 use abs_queries::look::{at, has_name, target};
 use nfs2_types::{Blob, Cred, Handle, Sattr, Time};
@@ -121,7 +121,7 @@ pub fn create(
     }
     let zeros = vec![in alloc; 0; s.size.unwrap_or(0) as usize]?;
     let new = Object::File {
-        attr: new_attr(0o644, cred, t, s),
+        attr: new_attr(NEW_FILE_MODE, cred, t, s),
         bytes: Blob::new(zeros),
     };
     adds(alloc, entries, d, name, t, new)

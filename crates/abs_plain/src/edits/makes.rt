@@ -9,7 +9,7 @@ ghost use Rattle.abs_plain.specs.Ready.{CanAdd};
 use super::change_names;
 use crate::attrs::new_attr;
 use crate::rows::placed;
-use abs_model::{Change, Entry, NameRow, Names, Object};
+use abs_model::{Change, Entry, NEW_DIR_MODE, NameRow, Names, OPEN_MODE, Object};
 use abs_queries::entries::names_of;
 use abs_queries::look::{at, free};
 use nfs2_types::{Blob, Cred, Handle, Sattr, Time};
@@ -63,7 +63,7 @@ pub fn make_dir(
     ensures { IfOk result (λ v. v.items ≡ changes entries.now cred.now t (make_dir dir.now name.now s.now)) }
 {
     let new = Object::Dir {
-        attr: new_attr(0o755, cred, t, s),
+        attr: new_attr(NEW_DIR_MODE, cred, t, s),
         names: Names::new(Vec::new(alloc)),
     };
     adds(alloc, entries, at(entries, dir), name, t, new)
@@ -84,7 +84,7 @@ pub fn symlink(
     ensures { IfOk result (λ v. v.items ≡ changes entries.now cred.now t (symlink dir.now name.now text.now s.now)) }
 {
     let new = Object::Link {
-        attr: new_attr(0o777, cred, t, s),
+        attr: new_attr(OPEN_MODE, cred, t, s),
         text: Blob::new(Vec::from_slice(alloc, text)?),
     };
     adds(alloc, entries, at(entries, dir), name, t, new)

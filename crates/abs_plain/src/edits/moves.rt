@@ -168,7 +168,8 @@ pub fn rename(
     to_name: &[u8],
 ) -> Result<Vec<Change>, AllocError>
     requires { CanRename entries.now from.now name.now to.now to_name.now }
-    ensures { IfOk result (λ v. v.items ≡ changes entries.now cred.now t (rename from.now name.now to.now to_name.now)) }
+    ensures { IfOk result (λ v. v.items ≡
+        changes entries.now cred.now t (rename from.now name.now to.now to_name.now)) }
 {
     let e = at(entries, to);
     let i = target(entries, at(entries, from), name);

@@ -4,61 +4,36 @@ ghost use Rattle.std.specs.Prelude.{◌≡◌, ◌≤◌};
 ghost use Rattle.nfs2_types.specs.Call.{remove, rename, link, remove_dir};
 ghost use Rattle.abs_model.specs.Array.{used};
 ghost use Rattle.abs_model.specs.Machine.{first_of, refusals};
+ghost use Rattle.abs_queries.specs.Refused.{any_limits};
 
 use super::no_room;
+use super::parts::old_name_status;
 use crate::look::{at, climbs_to, has_name, has_names_at, is_dir_at, is_stale, target};
-use crate::names::{is_bad, is_dot};
-use abs_model::Entry;
+use abs_model::{Entry, NAME_SPACE};
 use nfs2_types::stat::{ACCES, EXIST, ISDIR, NOENT, NOSPC, NOTDIR, NOTEMPTY, PERM, STALE};
-use nfs2_types::{Handle, Limits, Stat};
+use nfs2_types::{Handle, Limits, Stat, is_bad, is_dot};
 
 /// The refusals of REMOVE.
-pub fn remove(entries: &[Entry], limits: &Limits, dir: &Handle, name: &[u8]) -> Option<Stat>
-    ensures { result ≡ first_of (refusals entries.now limits.now (remove dir.now name.now)) }
+pub fn remove(entries: &[Entry], dir: &Handle, name: &[u8]) -> Option<Stat>
+    ensures { result ≡ first_of (refusals entries.now any_limits (remove dir.now name.now)) }
 {
-    let d = at(entries, dir);
-    if is_stale(entries, dir) {
-        return Some(STALE);
+    if let Some(status) = old_name_status(entries, dir, name) {
+        return Some(status);
     }
-    if !is_dir_at(entries, d) {
-        return Some(NOTDIR);
-    }
-    if is_bad(name) {
-        return Some(ACCES);
-    }
-    if is_dot(name) {
-        return Some(PERM);
-    }
-    if !has_name(entries, d, name) {
-        return Some(NOENT);
-    }
-    if is_dir_at(entries, target(entries, d, name)) {
+    if is_dir_at(entries, target(entries, at(entries, dir), name)) {
         return Some(ISDIR);
     }
     None
 }
 
 /// The refusals of RMDIR.
-pub fn remove_dir(entries: &[Entry], limits: &Limits, dir: &Handle, name: &[u8]) -> Option<Stat>
-    ensures { result ≡ first_of (refusals entries.now limits.now (remove_dir dir.now name.now)) }
+pub fn remove_dir(entries: &[Entry], dir: &Handle, name: &[u8]) -> Option<Stat>
+    ensures { result ≡ first_of (refusals entries.now any_limits (remove_dir dir.now name.now)) }
 {
-    let d = at(entries, dir);
-    if is_stale(entries, dir) {
-        return Some(STALE);
+    if let Some(status) = old_name_status(entries, dir, name) {
+        return Some(status);
     }
-    if !is_dir_at(entries, d) {
-        return Some(NOTDIR);
-    }
-    if is_bad(name) {
-        return Some(ACCES);
-    }
-    if is_dot(name) {
-        return Some(PERM);
-    }
-    if !has_name(entries, d, name) {
-        return Some(NOENT);
-    }
-    let i = target(entries, d, name);
+    let i = target(entries, at(entries, dir), name);
     if !is_dir_at(entries, i) {
         return Some(NOTDIR);
     }
@@ -98,7 +73,7 @@ pub fn link(
     if has_name(entries, d, name) {
         return Some(EXIST);
     }
-    if no_room(entries, limits, 0, 512) {
+    if no_room(entries, limits, 0, u64::from(NAME_SPACE)) {
         return Some(NOSPC);
     }
     None
@@ -107,13 +82,13 @@ pub fn link(
 /// The refusals of RENAME.
 pub fn rename(
     entries: &[Entry],
-    limits: &Limits,
     from: &Handle,
     name: &[u8],
     to: &Handle,
     to_name: &[u8],
 ) -> Option<Stat>
-    ensures { result ≡ first_of (refusals entries.now limits.now (rename from.now name.now to.now to_name.now)) }
+    ensures { result ≡ first_of (refusals entries.now any_limits
+        (rename from.now name.now to.now to_name.now)) }
 {
     let d = at(entries, from);
     let e = at(entries, to);
