@@ -29,7 +29,7 @@ some_same : (r s : NameRow) → Some r ≡ Some s → r ≡ s
 some_same r s e = cc
 
 -- any test that some row kept passes, some row passes
-any_without : (p : NameRow → Bool) (name : List ℕ) (rows : List NameRow) → list_any p (without name rows) ≡ true → list_any p rows ≡ true
+pub any_without : (p : NameRow → Bool) (name : List ℕ) (rows : List NameRow) → list_any p (without name rows) ≡ true → list_any p rows ≡ true
 any_without p name [] h = h
 any_without p name (r ∷ rs) h = go (not (bytes_eq r.name name)) h (λ k. any_without p name rs k)
   where
@@ -155,7 +155,7 @@ renamed_new limits A d b name to_name t r false other m absent =
 abbrev cleared : List Entry → ℕ → List ℕ → Time → ℕ → List Entry
 cleared A b to_name t j = set (set A b (with_names (without to_name) t (entry_at A b))) j (unlinked A j t)
 
-names_unlinked : (A : List Entry) (i : ℕ) (t : Time) → names_of (entry_at A i) ≡ [] → names_of (unlinked A i t) ≡ []
+pub names_unlinked : (A : List Entry) (i : ℕ) (t : Time) → names_of (entry_at A i) ≡ [] → names_of (unlinked A i t) ≡ []
 names_unlinked A i t none = go (nat_le (links A i) 1)
   where
     go : (c : Bool) → names_of (cond c (nulled (entry_at A i)) (with_attr (changed_at t (attr_of (entry_at A i))) (entry_at A i))) ≡ []
