@@ -23,7 +23,8 @@ use Rattle.nfs2_types.specs.Times.{is_time}
 use Rattle.abs_model.specs.Valid.{Walk, Valid, leads, most_bytes}
 use Rattle.abs_model.proofs.Shapes.{IsAttr, valid_like, live_below, fits_parts, fits_from}
 use Rattle.abs_model.proofs.AttrBounds.{attr_written, attr_new, attr_set}
-use Rattle.abs_model.proofs.Facts.{AllFalse, none_holds, IsLiveAt, live_at, no_names, file_is, HasRow, row_is, no_row, found_passes, led_is}
+use Rattle.abs_model.proofs.Facts.{AllFalse, none_holds, IsLiveAt, no_names, file_is, HasRow, row_is, no_row, found_passes, led_is}
+use Rattle.abs_model.proofs.Passed.{Passed, passed}
 use Rattle.abs_model.proofs.Climbs.{not_below}
 use Rattle.abs_model.proofs.Moved.{Moves, renamed, comes, renamed_new, renamed_over}
 use Rattle.abs_model.proofs.Kept.{adds_valid, unlinked_valid, dir_gone_valid, linked_valid, attr_valid}
@@ -114,19 +115,19 @@ file_short e file h = go e.object file h
 
 -- EVERY CALL
 
-pub kept : (limits : Limits) (A : List Entry) (cred : Cred) (t : Time) (call : Call) → is_time t ≡ true → call_fits call ≡ true → Valid limits A →
-    AllFalse (refusals A limits call) → Valid limits (changed (changes A cred t call) A)
-kept limits A cred t null moment fits valid f = valid
-kept limits A cred t root moment fits valid f = valid
-kept limits A cred t write_cache moment fits valid f = valid
-kept limits A cred t (get_attr node) moment fits valid f = valid
-kept limits A cred t (set_attr node sattr) moment fits valid f =
+keeps : (limits : Limits) (A : List Entry) (cred : Cred) (t : Time) (call : Call) → is_time t ≡ true → call_fits call ≡ true → Valid limits A →
+    Passed A limits call → Valid limits (changed (changes A cred t call) A)
+keeps limits A cred t null moment fits valid p = valid
+keeps limits A cred t root moment fits valid p = valid
+keeps limits A cred t write_cache moment fits valid p = valid
+keeps limits A cred t (get_attr node) moment fits valid p = valid
+keeps limits A cred t (set_attr node sattr) moment fits valid p =
     let i = at A node in
     let e = entry_at A i in
     let a = set_attr_of sattr t (attr_of e) in
-    let live = live_at A node f.0 in
+    let live = p.live in
     let ok = attr_set sattr t (attr_of e) moment fits (fits_parts e (valid.fits i live.below)).attr in
-    go sattr.size a live ok f.1.0 f.1.1.0 f.1.1.1.0 f.1.1.1.1.0
+    go sattr.size a live ok p.no_dir p.no_link p.small p.room
   where
     go : (size : Option ℕ) (a : Attr) → IsLiveAt A (at A node) → IsAttr a →
         (is_some size && is_dir (entry_at A (at A node))) ≡ false → (is_some size && is_link (entry_at A (at A node))) ≡ false →
@@ -141,15 +142,15 @@ kept limits A cred t (set_attr node sattr) moment fits valid f =
         let small = ltb-false file_limit n big in
         let left = ltb-false limits.t (used A + n - length (bytes_of e)) room in
         file_valid limits A (at A node) a (resized n (bytes_of e)) valid live.below (file_is e live.live no_dir no_link) ok (omega arith) (omega arith)
-kept limits A cred t (lookup dir name) moment fits valid f = valid
-kept limits A cred t (read_link node) moment fits valid f = valid
-kept limits A cred t (read file offset count) moment fits valid f = valid
-kept limits A cred t (write file offset bytes) moment fits valid f =
+keeps limits A cred t (lookup dir name) moment fits valid p = valid
+keeps limits A cred t (read_link node) moment fits valid p = valid
+keeps limits A cred t (read file offset count) moment fits valid p = valid
+keeps limits A cred t (write file offset bytes) moment fits valid p =
     let i = at A file in
     let e = entry_at A i in
-    let live = live_at A file f.0 in
+    let live = p.0.live in
     let own = fits_parts e (valid.fits i live.below) in
-    let is_f = file_is e live.live f.1.0 f.1.1.0 in
+    let is_f = file_is e live.live p.0.no_dir p.0.no_link in
     let short = file_short e is_f own.bytes in
     elim (cases_Bool (length bytes == 0)) [
       | inl none ↦
@@ -160,12 +161,12 @@ kept limits A cred t (write file offset bytes) moment fits valid f =
       | inr some ↦
           let long = length-written offset bytes (bytes_of e) some in
           let more : nat_lt 0 (length bytes) ≡ true = lt-ltb 0 (length bytes) (positive (length bytes) some) in
-          let small = ltb-false file_limit (offset + length bytes) (not_and (nat_lt 0 (length bytes)) _ more f.1.1.1.0) in
-          let left = ltb-false limits.t (used A + max (length (bytes_of e)) (offset + length bytes) - length (bytes_of e)) (not_and (nat_lt 0 (length bytes)) _ more f.1.1.1.1.0) in
+          let small = ltb-false file_limit (offset + length bytes) (not_and (nat_lt 0 (length bytes)) _ more p.1) in
+          let left = ltb-false limits.t (used A + max (length (bytes_of e)) (offset + length bytes) - length (bytes_of e)) (not_and (nat_lt 0 (length bytes)) _ more p.2) in
           file_valid limits A i (written_at t (attr_of e)) (written offset bytes (bytes_of e)) valid live.below is_f (attr_written t (attr_of e) moment own.attr) (omega arith) (omega arith)
     ]
-kept limits A cred t (create dir name sattr) moment fits valid f =
-    go (has_name A (at A dir) name) refl sattr.size f.1.1.1.1.0 f.1.1.1.1.1.0 f.1.1.1.1.1.1.0
+keeps limits A cred t (create dir name sattr) moment fits valid p =
+    go (has_name A (at A dir) name) refl sattr.size p.file p.small p.room
   where
     go : (b : Bool) → has_name A (at A dir) name ≡ b → (size : Option ℕ) → (b && not (is_file (entry_at A (target A (at A dir) name)))) ≡ false →
         nat_lt file_limit (unwrap_or size 0) ≡ false →
@@ -178,7 +179,7 @@ kept limits A cred t (create dir name sattr) moment fits valid f =
         let i = target A (at A dir) name in
         let e = entry_at A i in
         let row = row_is A (at A dir) name has in
-        let live_d = live_at A dir f.0 in
+        let live_d = p.in_dir.live in
         let led = led_is A row.row (found_passes (leads A) name (names_of (entry_at A (at A dir))) row.row row.found (valid.lead (at A dir) live_d.below)) in
         let live : is_null e ≡ false = ap (λ (x : ℕ). is_null (entry_at A x)) row.leads_there ∙ led.live in
         let below = live_below A i live in
@@ -188,53 +189,52 @@ kept limits A cred t (create dir name sattr) moment fits valid f =
         file_valid limits A i (written_at t (attr_of e)) (resized n (bytes_of e)) valid below (not-false (is_file e) file) (attr_written t (attr_of e) moment (fits_parts e (valid.fits i below)).attr) (omega arith) (omega arith)
     go false has size file big room =
         let d = at A dir in
-        let live = live_at A dir f.0 in
+        let live = p.in_dir.live in
         let bounds = and_parts (nat_le (length name) 255) (sattr_fits sattr) fits in
         let n = unwrap_or size 0 in
         let new = new_is A limits n room in
         let long = length-replicate {A = ℕ} n 0 in
         let small = ltb-false file_limit n big in
         let left = new.room in
-        adds_valid limits A d name t (File (new_attr new_file_mode cred t sattr) (replicate n 0)) new.index moment valid live.below (is_directory (is_dir (entry_at A d)) f.1.0)
-        (name_ok name f.1.1.0 bounds.0 f.1.1.1.0) (no_row name (names_of (entry_at A d)) has) new.free_at refl refl
+        adds_valid limits A d name t (File (new_attr new_file_mode cred t sattr) (replicate n 0)) new.index moment valid live.below p.in_dir.kind
+        (name_ok name p.in_dir.good bounds.0 p.no_dot) (no_row name (names_of (entry_at A d)) has) new.free_at refl refl
         (fits_from (made (File (new_attr new_file_mode cred t sattr) (replicate n 0)) (entry_at A new.index))
         (record { attr = attr_new new_file_mode cred t sattr refl moment bounds.1; rising = refl; named = refl; bytes = le-leb (length (replicate n 0)) file_limit (omega arith) })) (omega arith)
-kept limits A cred t (remove dir name) moment fits valid f =
+keeps limits A cred t (remove dir name) moment fits valid p =
     let d = at A dir in
     let i = target A d name in
-    let live = live_at A dir f.0 in
-    let is_d = is_directory (is_dir (entry_at A d)) f.1.0 in
-    let row = row_is A d name (not-false (has_name A d name) f.1.1.1.1.0) in
-    let no_dir : is_dir (entry_at A row.row.index) ≡ false = ap (λ (x : ℕ). is_dir (entry_at A x)) (sym row.leads_there) ∙ f.1.1.1.1.1.0 in
+    let live = p.0.in_dir.live in
+    let is_d = p.0.in_dir.kind in
+    let row = row_is A d name p.0.has in
+    let no_dir : is_dir (entry_at A row.row.index) ≡ false = ap (λ (x : ℕ). is_dir (entry_at A x)) (sym row.leads_there) ∙ p.1 in
     let apart : row.row.index ≢ d = λ same. true≢false (sym is_d ∙ subst (λ (x : ℕ). is_dir (entry_at A x) ≡ false) same no_dir) in
     subst (λ (x : ℕ). Valid limits (set (set A d (with_names (without name) t (entry_at A d))) x (unlinked A x t))) (sym row.leads_there)
     (unlinked_valid limits A d name t row.row moment valid live.below is_d row.found apart (no_names (entry_at A row.row.index) no_dir) (λ dir. absurd (true≢false (sym dir ∙ no_dir))))
-kept limits A cred t (rename from name to to_name) moment fits valid f =
+keeps limits A cred t (rename from name to to_name) moment fits valid p =
     go (has_name A (at A to) to_name) (target A (at A from) name == target A (at A to) to_name) (at A from == at A to) refl refl refl
   where
     row_from : HasRow A (at A from) name
-    row_from = row_is A (at A from) name (not-false (has_name A (at A from) name) f.1.1.1.1.1.1.1.0)
+    row_from = row_is A (at A from) name p.has
 
     facts : (not (has_name A (at A to) to_name && (target A (at A from) name == target A (at A to) to_name)) ≡ true) → Moves limits A (at A from) (at A to) name to_name t row_from.row
     facts differs =
         let row = row_from in
-        let live_d = live_at A from f.0 in
-        let live_b = live_at A to f.1.0 in
-        let b_dir = is_directory (is_dir (entry_at A (at A to))) f.1.1.1.0 in
-        let dots = or_parts (is_dot name) (is_dot to_name) f.1.1.1.1.1.1.0 in
+        let live_d = p.from_live in
+        let live_b = p.to_live in
+        let b_dir = p.to_dir in
         let lengths = and_parts (nat_le (length name) 255) (nat_le (length to_name) 255) fits in
         record {
           moment = moment;
           valid = valid;
           d_below = live_d.below;
           b_below = live_b.below;
-          d_dir = is_directory (is_dir (entry_at A (at A from))) f.1.1.0;
+          d_dir = p.from_dir;
           b_dir = b_dir;
           found = row.found;
-          is_ok = name_ok to_name f.1.1.1.1.1.0 lengths.1 dots.1;
+          is_ok = name_ok to_name p.to_good lengths.1 p.to_no_dot;
           apart = λ k w dir.
               let dir_moved : is_dir (entry_at A (target A (at A from) name)) ≡ true = ap (λ (x : ℕ). is_dir (entry_at A x)) row.leads_there ∙ dir in
-              let stops = not_and (is_dir (entry_at A (target A (at A from) name))) _ dir_moved (not_and (not (has_name A (at A to) to_name && (target A (at A from) name == target A (at A to) to_name))) _ differs f.1.1.1.1.1.1.1.1.1.1.1.0) in
+              let stops = not_and (is_dir (entry_at A (target A (at A from) name))) _ dir_moved (not_and (not (has_name A (at A to) to_name && (target A (at A from) name == target A (at A to) to_name))) _ differs p.not_below) in
               not_below limits A (target A (at A from) name) (at A to) valid b_dir live_b.below stops k (subst (λ (x : ℕ). Walk A k x (at A to)) (sym row.leads_there) w);
         }
 
@@ -255,9 +255,9 @@ kept limits A cred t (rename from name to to_name) moment fits valid f =
         let over : (has_name A (at A to) to_name && not (i == j)) ≡ true = and_from (has_name A (at A to) to_name) _ has (not_from_false (i == j) differs) in
         let no_names_j : names_of (entry_at A j) ≡ [] = elim (cases_Bool (is_dir (entry_at A i))) [
           | inl dir ↦
-              let empty = ltb-false 0 (length (names_of (entry_at A j))) (not_and (is_dir (entry_at A i)) _ dir (not_and _ _ over f.1.1.1.1.1.1.1.1.1.1.0)) in
+              let empty = ltb-false 0 (length (names_of (entry_at A j))) (not_and (is_dir (entry_at A i)) _ dir (not_and _ _ over p.over_names)) in
               nil_from_length (names_of (entry_at A j)) (omega arith)
-          | inr other ↦ no_names (entry_at A j) (not_and (not (is_dir (entry_at A i))) (is_dir (entry_at A j)) (not_from_false (is_dir (entry_at A i)) other) (not_and _ _ over f.1.1.1.1.1.1.1.1.0))
+          | inr other ↦ no_names (entry_at A j) (not_and (not (is_dir (entry_at A i))) (is_dir (entry_at A j)) (not_from_false (is_dir (entry_at A i)) other) (not_and _ _ over p.over_dir))
         ] in
         let apart : row_to_go.row.index ≢ row.row.index = λ same. eqb-false i j differs (row.leads_there ∙ (sym same ∙ sym row_to_go.leads_there)) in
         let none : names_of (entry_at A row_to_go.row.index) ≡ [] = ap (λ (x : ℕ). names_of (entry_at A x)) (sym row_to_go.leads_there) ∙ no_names_j in
@@ -284,48 +284,53 @@ kept limits A cred t (rename from name to to_name) moment fits valid f =
     go true false q has same which = over_it q has same which
     go false s true has same which = new_it true has which
     go false s false has same which = new_it false has which
-kept limits A cred t (link node dir name) moment fits valid f =
+keeps limits A cred t (link node dir name) moment fits valid p =
     let d = at A dir in
-    let object = live_at A node f.0 in
-    let live = live_at A dir f.1.0 in
-    let room = ltb-false limits.t (used A + 512 - 0) f.1.1.1.1.1.1.1.0 in
-    linked_valid limits A d (at A node) name t moment valid live.below (is_directory (is_dir (entry_at A d)) f.1.1.1.0) object.live f.1.1.0
-    (name_ok name f.1.1.1.1.0 fits f.1.1.1.1.1.0) (no_row name (names_of (entry_at A d)) f.1.1.1.1.1.1.0) (omega arith)
-kept limits A cred t (symlink dir name text sattr) moment fits valid f =
+    let object = p.live in
+    let live = p.in_dir.live in
+    let room = ltb-false limits.t (used A + 512 - 0) p.room in
+    linked_valid limits A d (at A node) name t moment valid live.below p.in_dir.kind object.live p.no_dir
+    (name_ok name p.in_dir.good fits p.no_dot) (no_row name (names_of (entry_at A d)) p.absent) (omega arith)
+keeps limits A cred t (symlink dir name text sattr) moment fits valid p =
     let d = at A dir in
-    let live = live_at A dir f.0 in
+    let live = p.in_dir.live in
     let bounds = and_parts (nat_le (length name) 255 && nat_le (length text) text_limit) (sattr_fits sattr) fits in
     let lengths = and_parts (nat_le (length name) 255) (nat_le (length text) text_limit) bounds.0 in
-    let new = new_is A limits (length text) f.1.1.1.1.1.0 in
+    let new = new_is A limits (length text) p.room in
     let left = new.room in
-    adds_valid limits A d name t (Link (new_attr open_mode cred t sattr) text) new.index moment valid live.below (is_directory (is_dir (entry_at A d)) f.1.0)
-    (name_ok name f.1.1.0 lengths.0 f.1.1.1.0) (no_row name (names_of (entry_at A d)) f.1.1.1.1.0) new.free_at refl refl
+    adds_valid limits A d name t (Link (new_attr open_mode cred t sattr) text) new.index moment valid live.below p.in_dir.kind
+    (name_ok name p.in_dir.good lengths.0 p.no_dot) (no_row name (names_of (entry_at A d)) p.absent) new.free_at refl refl
     (fits_from (made (Link (new_attr open_mode cred t sattr) text) (entry_at A new.index)) (record { attr = attr_new open_mode cred t sattr refl moment bounds.1; rising = refl; named = refl; bytes = lengths.1 })) (omega arith)
-kept limits A cred t (make_dir dir name sattr) moment fits valid f =
+keeps limits A cred t (make_dir dir name sattr) moment fits valid p =
     let d = at A dir in
-    let live = live_at A dir f.0 in
+    let live = p.in_dir.live in
     let bounds = and_parts (nat_le (length name) 255) (sattr_fits sattr) fits in
-    let new = new_is A limits 0 f.1.1.1.1.1.0 in
-    adds_valid limits A d name t (Dir (new_attr new_dir_mode cred t sattr) []) new.index moment valid live.below (is_directory (is_dir (entry_at A d)) f.1.0)
-    (name_ok name f.1.1.0 bounds.0 f.1.1.1.0) (no_row name (names_of (entry_at A d)) f.1.1.1.1.0) new.free_at refl refl
+    let new = new_is A limits 0 p.room in
+    adds_valid limits A d name t (Dir (new_attr new_dir_mode cred t sattr) []) new.index moment valid live.below p.in_dir.kind
+    (name_ok name p.in_dir.good bounds.0 p.no_dot) (no_row name (names_of (entry_at A d)) p.absent) new.free_at refl refl
     (fits_from (made (Dir (new_attr new_dir_mode cred t sattr) []) (entry_at A new.index)) (record { attr = attr_new new_dir_mode cred t sattr refl moment bounds.1; rising = refl; named = refl; bytes = refl })) new.room
-kept limits A cred t (remove_dir dir name) moment fits valid f =
+keeps limits A cred t (remove_dir dir name) moment fits valid p =
     let d = at A dir in
     let i = target A d name in
-    let live = live_at A dir f.0 in
-    let is_d = is_directory (is_dir (entry_at A d)) f.1.0 in
-    let row = row_is A d name (not-false (has_name A d name) f.1.1.1.1.0) in
+    let live = p.0.in_dir.live in
+    let is_d = p.0.in_dir.kind in
+    let row = row_is A d name p.0.has in
     let here = row.leads_there in
-    let dir_i : is_dir (entry_at A row.row.index) ≡ true = ap (λ (x : ℕ). is_dir (entry_at A x)) (sym here) ∙ is_directory (is_dir (entry_at A i)) f.1.1.1.1.1.0 in
-    let empty = ltb-false 0 (length (names_of (entry_at A i))) f.1.1.1.1.1.1.0 in
+    let dir_i : is_dir (entry_at A row.row.index) ≡ true = ap (λ (x : ℕ). is_dir (entry_at A x)) (sym here) ∙ p.1 in
+    let empty = ltb-false 0 (length (names_of (entry_at A i))) p.2 in
     let none_i : names_of (entry_at A i) ≡ [] = nil_from_length (names_of (entry_at A i)) (omega arith) in
     let none : names_of (entry_at A row.row.index) ≡ [] = ap (λ (x : ℕ). names_of (entry_at A x)) (sym here) ∙ none_i in
     let apart : row.row.index ≢ d = λ same.
     some_row name row.row (sym (ap (row_of name) (subst (λ (x : ℕ). names_of (entry_at A x) ≡ []) same none)) ∙ row.found) in
     subst (λ (x : ℕ). Valid limits (set (set A d (with_names (without name) t (entry_at A d))) x (nulled (entry_at A x)))) (sym here)
     (dir_gone_valid limits A d name t row.row moment valid live.below is_d row.found apart none dir_i)
-kept limits A cred t (read_dir dir cookie count) moment fits valid f = valid
-kept limits A cred t (stat_fs node) moment fits valid f = valid
+keeps limits A cred t (read_dir dir cookie count) moment fits valid p = valid
+keeps limits A cred t (stat_fs node) moment fits valid p = valid
+
+-- the same, from tests of which none holds
+pub kept : (limits : Limits) (A : List Entry) (cred : Cred) (t : Time) (call : Call) → is_time t ≡ true → call_fits call ≡ true → Valid limits A →
+    AllFalse (refusals A limits call) → Valid limits (changed (changes A cred t call) A)
+kept limits A cred t call moment fits valid f = keeps limits A cred t call moment fits valid (passed A limits call f)
 
 pub stays_valid : (limits : Limits) (A : List Entry) (cred : Cred) (t : Time) (call : Call) → is_time t ≡ true → call_fits call ≡ true → Valid limits A →
     Valid limits (array_after A limits cred t call)

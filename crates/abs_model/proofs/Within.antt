@@ -1,7 +1,6 @@
 -- what is told lies in the array
 use Rattle.std.proofs.Common.{◌≡◌, ℕ, zero, suc, ◌<◌, List, [], ◌∷◌, ◌++◌, Bool, true, false, map, length, refl, sym, ◌∙◌, ap, subst, arith, Option, Some, None, Contains, replicate}
 use Rattle.std.specs.Prelude.{slice_index_or, ◌&&◌, ◌==◌, is_some, unwrap_or, if◌then◌else◌}
-use Rattle.std.proofs.lemmas.Bool.{not-false}
 use Rattle.nfs2_types.specs.declared.Limits.{Limits}
 use Rattle.nfs2_types.specs.declared.Time.{Time}
 use Rattle.nfs2_types.specs.declared.Cred.{Cred}
@@ -15,9 +14,11 @@ use Rattle.abs_model.specs.declared.entry.Object.TheVariants.{File, Dir, Link}
 use Rattle.abs_model.specs.Objects.{is_null, names_of, bytes_of, new_attr}
 use Rattle.abs_model.specs.Array.{entry_at, at, target, has_name}
 use Rattle.abs_model.specs.Machine.{first_of, refusals, changes, adds, with_bytes, rows_move, row_to, to_be, unlinked, no_new, no_room, effect, told, array_after}
+use Rattle.abs_model.specs.Numbers.{new_file_mode, new_dir_mode, open_mode}
 use Rattle.abs_model.specs.Valid.{Valid, leads}
 use Rattle.abs_model.proofs.Shapes.{live_below}
-use Rattle.abs_model.proofs.Facts.{AllFalse, none_holds, live_at, row_is, found_passes, led_is}
+use Rattle.abs_model.proofs.Facts.{none_holds, row_is, found_passes, led_is}
+use Rattle.abs_model.proofs.Passed.{Passed, passed}
 use Rattle.abs_model.proofs.Kept.{free_is}
 use Rattle.abs_model.proofs.Law.{new_is}
 use Rattle.abs_model.proofs.Untold.{length-changed}
@@ -52,49 +53,47 @@ moves_below A d name e to_name i g t d_below e_below = go (d == e) _ _ _
     go true x y z = (d_below, tt)
     go false x y z = (d_below, (e_below, tt))
 
-below : (limits : Limits) (A : List Entry) (cred : Cred) (t : Time) (call : Call) → Valid limits A → AllFalse (refusals A limits call) → AllBelow (length A) (changes A cred t call)
-below limits A cred t null valid f = tt
-below limits A cred t root valid f = tt
-below limits A cred t write_cache valid f = tt
-below limits A cred t (get_attr node) valid f = tt
-below limits A cred t (set_attr node sattr) valid f = ((live_at A node f.0).below, tt)
-below limits A cred t (lookup dir name) valid f = tt
-below limits A cred t (read_link node) valid f = tt
-below limits A cred t (read file offset count) valid f = tt
-below limits A cred t (write file offset bytes) valid f = ((live_at A file f.0).below, tt)
-below limits A cred t (create dir name sattr) valid f = go (has_name A (at A dir) name) refl sattr.size f.1.1.1.1.1.1.0
+below : (limits : Limits) (A : List Entry) (cred : Cred) (t : Time) (call : Call) → Valid limits A → Passed A limits call → AllBelow (length A) (changes A cred t call)
+below limits A cred t null valid p = tt
+below limits A cred t root valid p = tt
+below limits A cred t write_cache valid p = tt
+below limits A cred t (get_attr node) valid p = tt
+below limits A cred t (set_attr node sattr) valid p = (p.live.below, tt)
+below limits A cred t (lookup dir name) valid p = tt
+below limits A cred t (read_link node) valid p = tt
+below limits A cred t (read file offset count) valid p = tt
+below limits A cred t (write file offset bytes) valid p = (p.0.live.below, tt)
+below limits A cred t (create dir name sattr) valid p = go (has_name A (at A dir) name) refl sattr.size p.room
   where
     go : (b : Bool) → has_name A (at A dir) name ≡ b → (size : Option ℕ) →
         (if b then is_some size && no_room A limits (length (bytes_of (entry_at A (target A (at A dir) name)))) (unwrap_or size 0) else no_new A limits (unwrap_or size 0)) ≡ false →
         AllBelow (length A) (if b then
         (if is_some size then to_be (target A (at A dir) name) (with_bytes (resized (unwrap_or size 0)) t (entry_at A (target A (at A dir) name))) ∷ [] else [])
-        else adds A (at A dir) name t (File (new_attr 420 cred t sattr) (replicate (unwrap_or size 0) 0)))
+        else adds A (at A dir) name t (File (new_attr new_file_mode cred t sattr) (replicate (unwrap_or size 0) 0)))
     go true has None room = tt
-    go true has (Some n) room = (target_below limits A (at A dir) name valid (live_at A dir f.0).below has, tt)
-    go false has size room = adds_below A limits (unwrap_or size 0) (at A dir) name t (File (new_attr 420 cred t sattr) (replicate (unwrap_or size 0) 0)) (live_at A dir f.0).below room
-below limits A cred t (remove dir name) valid f =
-    let live = live_at A dir f.0 in
-    (live.below, (target_below limits A (at A dir) name valid live.below (not-false (has_name A (at A dir) name) f.1.1.1.1.0), tt))
-below limits A cred t (rename from name to to_name) valid f =
+    go true has (Some n) room = (target_below limits A (at A dir) name valid p.in_dir.live.below has, tt)
+    go false has size room = adds_below A limits (unwrap_or size 0) (at A dir) name t (File (new_attr new_file_mode cred t sattr) (replicate (unwrap_or size 0) 0)) p.in_dir.live.below room
+below limits A cred t (remove dir name) valid p =
+    (p.0.in_dir.live.below, (target_below limits A (at A dir) name valid p.0.in_dir.live.below p.0.has, tt))
+below limits A cred t (rename from name to to_name) valid p =
     go (has_name A (at A to) to_name) refl (target A (at A from) name == target A (at A to) to_name)
   where
     go : (b : Bool) → has_name A (at A to) to_name ≡ b → (s : Bool) → AllBelow (length A) (if b && s then [] else
         (rows_move A (at A from) name (at A to) (row_to to_name (target A (at A from) name) (entry_at A (target A (at A from) name)).generation) t
         ++ (if b then to_be (target A (at A to) to_name) (unlinked A (target A (at A to) to_name) t) ∷ [] else [])))
     go true has true = tt
-    go true has false = both_below (length A) _ _ (moves_below A (at A from) name (at A to) to_name (target A (at A from) name) _ t (live_at A from f.0).below (live_at A to f.1.0).below)
-        (target_below limits A (at A to) to_name valid (live_at A to f.1.0).below has, tt)
-    go false has s = both_below (length A) _ _ (moves_below A (at A from) name (at A to) to_name (target A (at A from) name) _ t (live_at A from f.0).below (live_at A to f.1.0).below) tt
-below limits A cred t (link node dir name) valid f = ((live_at A dir f.1.0).below, ((live_at A node f.0).below, tt))
-below limits A cred t (symlink dir name text sattr) valid f =
-    adds_below A limits (length text) (at A dir) name t (Link (new_attr 511 cred t sattr) text) (live_at A dir f.0).below f.1.1.1.1.1.0
-below limits A cred t (make_dir dir name sattr) valid f =
-    adds_below A limits 0 (at A dir) name t (Dir (new_attr 493 cred t sattr) []) (live_at A dir f.0).below f.1.1.1.1.1.0
-below limits A cred t (remove_dir dir name) valid f =
-    let live = live_at A dir f.0 in
-    (live.below, (target_below limits A (at A dir) name valid live.below (not-false (has_name A (at A dir) name) f.1.1.1.1.0), tt))
-below limits A cred t (read_dir dir cookie count) valid f = tt
-below limits A cred t (stat_fs node) valid f = tt
+    go true has false = both_below (length A) _ _ (moves_below A (at A from) name (at A to) to_name (target A (at A from) name) _ t p.from_live.below p.to_live.below)
+        (target_below limits A (at A to) to_name valid p.to_live.below has, tt)
+    go false has s = both_below (length A) _ _ (moves_below A (at A from) name (at A to) to_name (target A (at A from) name) _ t p.from_live.below p.to_live.below) tt
+below limits A cred t (link node dir name) valid p = (p.in_dir.live.below, (p.live.below, tt))
+below limits A cred t (symlink dir name text sattr) valid p =
+    adds_below A limits (length text) (at A dir) name t (Link (new_attr open_mode cred t sattr) text) p.in_dir.live.below p.room
+below limits A cred t (make_dir dir name sattr) valid p =
+    adds_below A limits 0 (at A dir) name t (Dir (new_attr new_dir_mode cred t sattr) []) p.in_dir.live.below p.room
+below limits A cred t (remove_dir dir name) valid p =
+    (p.0.in_dir.live.below, (target_below limits A (at A dir) name valid p.0.in_dir.live.below p.0.has, tt))
+below limits A cred t (read_dir dir cookie count) valid p = tt
+below limits A cred t (stat_fs node) valid p = tt
 
 listed_below : (n : ℕ) (cs : List Change) → AllBelow n cs → (k d : ℕ) → k < length (map (λ (c : Change). c.index) cs) → slice_index_or (map (λ (c : Change). c.index) cs) k d < n
 listed_below n [] h k d l = absurd (omega arith)
@@ -107,7 +106,7 @@ told_is_below limits A cred t call i valid is_told = go (first_of (refusals A li
   where
     go : (o : Option Stat) → first_of (refusals A limits call) ≡ o → Contains (map (λ (c : Change). c.index) (if is_some o then [] else changes A cred t call)) i → i < length A
     go (Some s) e h = absurd (omega (arith, h.1))
-    go None e h = subst (λ (x : ℕ). x < length A) h.2 (listed_below (length A) (changes A cred t call) (below limits A cred t call valid (none_holds (refusals A limits call) e)) h.0 i h.1)
+    go None e h = subst (λ (x : ℕ). x < length A) h.2 (listed_below (length A) (changes A cred t call) (below limits A cred t call valid (passed A limits call (none_holds (refusals A limits call) e))) h.0 i h.1)
 
 pub same_length : (A : List Entry) (limits : Limits) (cred : Cred) (t : Time) (call : Call) → length (array_after A limits cred t call) ≡ length A
 unfolding array_after

@@ -17,7 +17,8 @@ use Rattle.abs_model.specs.Objects.{is_dir, names_of, bytes_of}
 use Rattle.abs_model.specs.Machine.{first_of, refusals, changes, no_room, no_new}
 use Rattle.abs_model.specs.Valid.{Valid, leads}
 use Rattle.abs_model.specs.Bounds.{HasBounds}
-use Rattle.abs_model.proofs.Facts.{AllFalse, none_holds, live_at, dir_is, led_is}
+use Rattle.abs_model.proofs.Facts.{AllFalse, none_holds, dir_is, led_is}
+use Rattle.abs_model.proofs.Passed.{Passed, passed}
 use Rattle.abs_model.proofs.Shapes.{live_below}
 use Rattle.abs_model.proofs.Untold.{length-changed}
 use Rattle.abs_model.proofs.Bounded.{bounded, links_used}
@@ -35,6 +36,7 @@ pub record IsAllowed (limits : Limits) (A : List Entry) (call : Call) : Type 0 w
   pub n : limits.n < 2 ^ 32
   pub t : limits.t < 2 ^ 32
   pub f : AllFalse (refusals A limits call)
+  pub p : Passed A limits call
 
 bounds_at : (limits : Limits) (A : List Entry) (call : Call) (i : ℕ) → IsAllowed limits A call → i < length A → HasBounds A i
 bounds_at limits A call i ok below = bounded limits A i ok.valid ok.n ok.t below
@@ -69,14 +71,14 @@ pub can_read : (limits : Limits) (A : List Entry) (call : Call) → IsAllowed li
 can_read limits A null ok = tt
 can_read limits A root ok = tt
 can_read limits A write_cache ok = tt
-can_read limits A (get_attr node) ok = bounds_at limits A (get_attr node) (at A node) ok (live_at A node ok.f.0).below
+can_read limits A (get_attr node) ok = bounds_at limits A (get_attr node) (at A node) ok ok.p.below
 can_read limits A (set_attr node sattr) ok = tt
 can_read limits A (lookup dir name) ok =
-    let live = live_at A dir ok.f.0 in
+    let live = ok.p.in_dir.live in
     bounds_at limits A (lookup dir name) (found A (at A dir) name) ok
-    (found_below limits A (at A dir) name ok.valid live.below (not-false (is_dir (entry_at A (at A dir))) ok.f.1.0) ok.f.1.1.1.0)
+    (found_below limits A (at A dir) name ok.valid live.below ok.p.in_dir.kind ok.p.found)
 can_read limits A (read_link node) ok = tt
-can_read limits A (read file offset count) ok = bounds_at limits A (read file offset count) (at A file) ok (live_at A file ok.f.0).below
+can_read limits A (read file offset count) ok = bounds_at limits A (read file offset count) (at A file) ok ok.p.live.below
 can_read limits A (write file offset bytes) ok = tt
 can_read limits A (create dir name sattr) ok = tt
 can_read limits A (remove dir name) ok = tt
@@ -86,7 +88,7 @@ can_read limits A (symlink dir name text sattr) ok = tt
 can_read limits A (make_dir dir name sattr) ok = tt
 can_read limits A (remove_dir dir name) ok = tt
 can_read limits A (read_dir dir cookie count) ok =
-    lists limits A (read_dir dir cookie count) (at A dir) ok (live_at A dir ok.f.0).below (not-false (is_dir (entry_at A (at A dir))) ok.f.1.0)
+    lists limits A (read_dir dir cookie count) (at A dir) ok ok.p.live.below ok.p.kind
 can_read limits A (stat_fs node) ok = ok.valid.room
 
 -- WHAT A CHANGING CALL NEEDS
@@ -113,43 +115,43 @@ can_change limits A null ok = tt
 can_change limits A root ok = tt
 can_change limits A write_cache ok = tt
 can_change limits A (get_attr node) ok = tt
-can_change limits A (set_attr node sattr) ok = record { small = small limits A (set_attr node sattr) ok; within = (live_at A node ok.f.0).below }
+can_change limits A (set_attr node sattr) ok = record { small = small limits A (set_attr node sattr) ok; within = ok.p.live.below }
 can_change limits A (lookup dir name) ok = tt
 can_change limits A (read_link node) ok = tt
 can_change limits A (read file offset count) ok = tt
-can_change limits A (write file offset bytes) ok = record { small = small limits A (write file offset bytes) ok; within = (live_at A file ok.f.0).below }
+can_change limits A (write file offset bytes) ok = record { small = small limits A (write file offset bytes) ok; within = ok.p.0.live.below }
 can_change limits A (create dir name sattr) ok =
-    let live = live_at A dir ok.f.0 in
+    let live = ok.p.in_dir.live in
     record {
       small = small limits A (create dir name sattr) ok;
       found = λ has. target_below limits A (at A dir) name ok.valid live.below has;
-      makes = λ none. go (has_name A (at A dir) name) none ok.f.1.1.1.1.1.1.0;
+      makes = λ none. go (has_name A (at A dir) name) none ok.p.room;
     }
   where
     go : (b : Bool) → b ≡ false →
         (if b then is_some sattr.size && no_room A limits (length (bytes_of (entry_at A (target A (at A dir) name)))) (unwrap_or sattr.size 0) else no_new A limits (unwrap_or sattr.size 0)) ≡ false →
         CanAdd A (at A dir)
     go true none h = absurd (true≢false none)
-    go false none h = adds_one limits A (create dir name sattr) (at A dir) (unwrap_or sattr.size 0) ok (live_at A dir ok.f.0).below h
+    go false none h = adds_one limits A (create dir name sattr) (at A dir) (unwrap_or sattr.size 0) ok ok.p.in_dir.live.below h
 can_change limits A (remove dir name) ok =
-    takes_out limits A (remove dir name) dir name ok (live_at A dir ok.f.0).below (not-false (has_name A (at A dir) name) ok.f.1.1.1.1.0)
+    takes_out limits A (remove dir name) dir name ok ok.p.0.in_dir.live.below ok.p.0.has
 can_change limits A (rename from name to to_name) ok =
-    let live_d = live_at A from ok.f.0 in
-    let live_e = live_at A to ok.f.1.0 in
+    let live_d = ok.p.from_live in
+    let live_e = ok.p.to_live in
     record {
       small = small limits A (rename from name to to_name) ok;
       from_within = live_d.below;
       to_within = live_e.below;
-      within = target_below limits A (at A from) name ok.valid live_d.below (not-false (has_name A (at A from) name) ok.f.1.1.1.1.1.1.1.0);
+      within = target_below limits A (at A from) name ok.valid live_d.below ok.p.has;
       over = λ has. target_below limits A (at A to) to_name ok.valid live_e.below has;
       few = few limits A (rename from name to to_name) (target A (at A to) to_name) ok;
     }
 can_change limits A (link node dir name) ok =
-    record { small = small limits A (link node dir name) ok; within = (live_at A node ok.f.0).below; dir_within = (live_at A dir ok.f.1.0).below }
-can_change limits A (symlink dir name text sattr) ok = adds_one limits A (symlink dir name text sattr) (at A dir) (length text) ok (live_at A dir ok.f.0).below ok.f.1.1.1.1.1.0
-can_change limits A (make_dir dir name sattr) ok = adds_one limits A (make_dir dir name sattr) (at A dir) 0 ok (live_at A dir ok.f.0).below ok.f.1.1.1.1.1.0
+    record { small = small limits A (link node dir name) ok; within = ok.p.live.below; dir_within = ok.p.in_dir.live.below }
+can_change limits A (symlink dir name text sattr) ok = adds_one limits A (symlink dir name text sattr) (at A dir) (length text) ok ok.p.in_dir.live.below ok.p.room
+can_change limits A (make_dir dir name sattr) ok = adds_one limits A (make_dir dir name sattr) (at A dir) 0 ok ok.p.in_dir.live.below ok.p.room
 can_change limits A (remove_dir dir name) ok =
-    takes_out limits A (remove_dir dir name) dir name ok (live_at A dir ok.f.0).below (not-false (has_name A (at A dir) name) ok.f.1.1.1.1.0)
+    takes_out limits A (remove_dir dir name) dir name ok ok.p.0.in_dir.live.below ok.p.0.has
 can_change limits A (read_dir dir cookie count) ok = tt
 can_change limits A (stat_fs node) ok = tt
 
@@ -168,27 +170,27 @@ place_below limits A null ok = root_below limits A ok.valid
 place_below limits A root ok = root_below limits A ok.valid
 place_below limits A write_cache ok = root_below limits A ok.valid
 place_below limits A (get_attr node) ok = root_below limits A ok.valid
-place_below limits A (set_attr node sattr) ok = (live_at A node ok.f.0).below
+place_below limits A (set_attr node sattr) ok = ok.p.live.below
 place_below limits A (lookup dir name) ok = root_below limits A ok.valid
 place_below limits A (read_link node) ok = root_below limits A ok.valid
 place_below limits A (read file offset count) ok = root_below limits A ok.valid
-place_below limits A (write file offset bytes) ok = (live_at A file ok.f.0).below
-place_below limits A (create dir name sattr) ok = go (has_name A (at A dir) name) refl ok.f.1.1.1.1.1.1.0
+place_below limits A (write file offset bytes) ok = ok.p.0.live.below
+place_below limits A (create dir name sattr) ok = go (has_name A (at A dir) name) refl ok.p.room
   where
     go : (b : Bool) → has_name A (at A dir) name ≡ b →
         (if b then is_some sattr.size && no_room A limits (length (bytes_of (entry_at A (target A (at A dir) name)))) (unwrap_or sattr.size 0) else no_new A limits (unwrap_or sattr.size 0)) ≡ false →
         (if b then target A (at A dir) name else unwrap_or (free A) (length A)) < length A
-    go true has h = target_below limits A (at A dir) name ok.valid (live_at A dir ok.f.0).below has
+    go true has h = target_below limits A (at A dir) name ok.valid ok.p.in_dir.live.below has
     go false has h = new_below limits A (unwrap_or sattr.size 0) h
 place_below limits A (remove dir name) ok = root_below limits A ok.valid
 place_below limits A (rename from name to to_name) ok = root_below limits A ok.valid
 place_below limits A (link node dir name) ok = root_below limits A ok.valid
 place_below limits A (symlink dir name text sattr) ok = root_below limits A ok.valid
-place_below limits A (make_dir dir name sattr) ok = go (has_name A (at A dir) name) ok.f.1.1.1.1.0
+place_below limits A (make_dir dir name sattr) ok = go (has_name A (at A dir) name) ok.p.absent
   where
     go : (b : Bool) → b ≡ false → (if b then target A (at A dir) name else unwrap_or (free A) (length A)) < length A
     go true h = absurd (true≢false h)
-    go false h = new_below limits A 0 ok.f.1.1.1.1.1.0
+    go false h = new_below limits A 0 ok.p.room
 place_below limits A (remove_dir dir name) ok = root_below limits A ok.valid
 place_below limits A (read_dir dir cookie count) ok = root_below limits A ok.valid
 place_below limits A (stat_fs node) ok = root_below limits A ok.valid
@@ -202,4 +204,6 @@ place_bounds limits A cred t call moment fits ok =
     (let long = length-changed (changes A cred t call) A in let there = place_below limits A call ok in omega arith)
 
 pub is_allowed : (limits : Limits) (A : List Entry) (call : Call) → Valid limits A → limits.n < 2 ^ 32 → limits.t < 2 ^ 32 → first_of (refusals A limits call) ≡ None → IsAllowed limits A call
-is_allowed limits A call valid n t none = record { valid = valid; n = n; t = t; f = none_holds (refusals A limits call) none }
+is_allowed limits A call valid n t none =
+    let f = none_holds (refusals A limits call) none in
+    record { valid = valid; n = n; t = t; f = f; p = passed A limits call f }
