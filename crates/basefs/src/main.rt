@@ -21,10 +21,10 @@ use path_server::PathServer;
 use program::basefs;
 use server_trait::{Bench, ServerLimits, Srv};
 use status::Status;
-use std::env;
 use std::env::Env;
 use std::io::ErrorKind;
 use std::process::ExitCode;
+use std::{env, io};
 
 /// How many servers stand ready.
 const SERVERS: u32 = 10;
@@ -52,8 +52,10 @@ fn run_over(rt: &HostRuntime, words: &[String], bench: &mut Bench) -> Status
     requires { vec_len bench.old.servers < 2 ^ 32 }
 {
     let alloc = rt.alloc();
-    let mut input = StdSource::new(rt);
-    let mut out = StdSink::new(rt);
+    let Ok(mut input) = StdSource::new(alloc, rt.reader()) else {
+        return Status::NoMemory;
+    };
+    let mut out = StdSink::new(io::writer(rt));
     let mut link = MemLink::new(alloc, Vec::new(alloc), Vec::new(alloc));
     let mut clock = MemClock::new(Vec::new(alloc));
     basefs(

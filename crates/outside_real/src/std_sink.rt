@@ -1,4 +1,4 @@
-//! Standard output.
+//! A writer of the system as a sink.
 
 ghost use Rattle.std.specs.Prelude.{◌≡◌, ℕ, None, IsErrOf, length};
 ghost use Rattle.std.specs.Io.{WritesAtMost};
@@ -7,29 +7,26 @@ ghost use Rattle.outside.specs.Causes.{SinkHasCause};
 ghost use Rattle.outside.specs.Told.{TellsAlike};
 
 use outside::{Sink, SinkErr};
-use std::io;
-use std::io::{Printer, Write};
+use std::io::Write;
 
-/// Standard output as a sink, which never answers `NoMemory`.
+/// A writer of the system as a sink, which never answers `NoMemory`.
 #[derive(Drop)]
-pub struct StdSink<'a, P: Print> {
-    writer: Printer<'a, P>,
+pub struct StdSink<W: Write + Drop> {
+    writer: W,
     faults: u64,
 }
 
-impl<'a, P: Print> StdSink<'a, P> {
-    /// The standard output of the runtime.
-    pub fn new(rt: &'a P) -> StdSink<'a, P>
-        ensures faults { ⟦<StdSink<'a, P> as Sink>⟧.faults result ≡ 0 }
+impl<W: Write + Drop> StdSink<W> {
+    /// The sink of this writer.
+    pub fn new(writer: W) -> StdSink<W>
+        ensures faults { ⟦<StdSink<W> as Sink>⟧.faults result ≡ 0 }
+        ensures writer { result.writer ≡ writer }
     {
-        StdSink {
-            writer: io::writer(rt),
-            faults: 0,
-        }
+        StdSink { writer, faults: 0 }
     }
 }
 
-impl<'a, P: Print> Sink for StdSink<'a, P> {
+impl<W: Write + Drop> Sink for StdSink<W> {
     ghost written = { λ _. None };
 
     ghost faults = { λ s. s.faults };
@@ -40,6 +37,9 @@ impl<'a, P: Print> Sink for StdSink<'a, P> {
         ensures tells { TellsAlike {A = ℕ} None None }
         ensures cause { SinkHasCause self.old.faults self.new.faults (length piece.now) result }
         ensures memory { ¬ (IsErrOf result SinkErr.NoMemory) }
+
+        // Its writer gets what it takes.
+        ensures writer { WriteAppends (W.contents self.old.writer) (W.contents self.new.writer) result piece.now }
     {
         match self.writer.write(piece) {
             Ok(0) if !piece.is_empty() => {
