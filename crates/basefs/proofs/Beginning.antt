@@ -23,9 +23,10 @@ use Rattle.basefs.specs.Run.{Snapshot, Ran}
 use Rattle.basefs.specs.Going.{Goes, Here, Going, Turns, write_status}
 use Rattle.basefs.specs.Turns.{snapshot}
 use Rattle.basefs.specs.Replayed.{all_records}
-use Rattle.basefs.proofs.Taking.{Goes-none, over_write}
-use Rattle.basefs.proofs.Stepped.{all_as, ran_here, printed_part, appended_all}
-use Rattle.basefs.proofs.Turning.{stops_most}
+use Rattle.basefs.proofs.Taking.{Goes-none}
+use Rattle.basefs.proofs.Points.{points_of}
+use Rattle.basefs.proofs.Stepped.{ran_here, cut_start, printed_part, appended_all}
+use Rattle.basefs.proofs.Turning.{stops_most, ends_at_write, unread_at_write, nothing_more}
 
 module _ (limits : Limits) (kept : Kept) (server server' : Server) (table table' : ConfTable) (downs downs' : List FaultPoint) (lines : List Line) (s : Starts limits kept server server' table' downs' lines) where
   here : Here limits server server' table' downs' kept []
@@ -34,7 +35,7 @@ module _ (limits : Limits) (kept : Kept) (server server' : Server) (table table'
     requests = s.requests;
     counted = s.events;
     limits_are = s.limits_are;
-    points = all_as (λ (d : FaultPoint). (d.event ≡ 0) × (d.replica ≡ 0)) (λ (d : FaultPoint). (d.event ≤ 0) × (d.replica ≡ 0)) downs' (λ d p. (omega (arith, p.0), p.1)) s.numbered;
+    points = points_of limits 0 downs' s.numbered;
     met = subst (AreMet downs') (sym s.lines_said) s.lines_are;
     rose = s.struck.rose;
     quiet = λ none. s.struck.quiet (ap (λ (d : List FaultPoint). length d) none);
@@ -60,7 +61,9 @@ module _ (limits : Limits) (kept : Kept) (server server' : Server) (table table'
   -- a write failed
   pub begun_failed : (left held held' : Option (List ℕ)) (f : SinkErr) → limits.f ≡ 0 → Writes {T = Unit} held held' (text_of lines) (Err f)
       → Ran limits (all_records limits) (snapshot left held server table downs) (snapshot left held' server' table' downs') (write_status f)
-  begun_failed left held held' f one w = ran_here one here (over_write f (all_records limits) left) (printed_part [] (Appends-none held) w text_is)
+  begun_failed left held held' f one w =
+      let none = Goes-none left (all_records limits) in
+      ran_here one here (ends_at_write f none) (λ e. unread_at_write none (nothing_more 16777216 limits.k [] 24)) (printed_part [] (Appends-none held) w text_is) (cut_start limits downs' _)
 
 -- THE TURNS OF A RUN
 

@@ -4,14 +4,12 @@ use Rattle.std.specs.Prelude.{IfSome}
 use Rattle.std.specs.Io.KnownBytes.{Consumes}
 use Rattle.std.proofs.lemmas.List.{append-nil}
 use Rattle.server_trait.specs.Tree.{Server}
-use Rattle.server_trait.specs.declared.ConfTable.{ConfTable}
-use Rattle.server_trait.specs.declared.FaultPoint.{FaultPoint}
 use Rattle.log_format.specs.declared.Event.{Event}
 use Rattle.basefs.specs.declared.status.Status.{Status}
 use Rattle.basefs.specs.declared.status.Status.TheVariants as status
 use Rattle.basefs.specs.Log.{Log, log_of}
 use Rattle.basefs.specs.Run.{Says, Ends, status_of, IsFault}
-use Rattle.basefs.specs.Replayed.{Early, Started, Replayed}
+use Rattle.basefs.specs.Replayed.{Setting, Early, Started, Replayed}
 
 says_exactly : (log : List ℕ → Log) (s : Status) (bytes taken rest : List ℕ) (events : List Event) → bytes ≡ taken ++ rest → Says s log taken (Some rest) events → (s ≡ status_of (log bytes).stop) ⊎ IsFault s
 says_exactly log status.Done bytes taken rest events e h =
@@ -38,18 +36,18 @@ ends_exactly old left log s events p = told old left log s p.taken events p.cons
 ends_no_usage : (old left : Option (List ℕ)) (log : List ℕ → Log) (s : Status) (events : List Event) → Ends old left log s events → s ≡ status.Usage → ⊥
 ends_no_usage old left log s events p e = subst (λ (t : Status). Says t log p.taken left events) e p.says
 
-module _ {X : Type 0} (state : X → Server) (old left held held' : Option (List ℕ)) (servers servers' : List X) (tables' : List ConfTable) (downs' : List FaultPoint) (s : Status) where
-  pub replayed_exactly : Replayed state old left held held' servers servers' tables' downs' s → IfSome old (λ bytes. (s ≡ status_of (log_of (λ x. (state x).limits) servers bytes).stop) ⊎ IsFault s)
+module _ {X : Type 0} (state : X → Server) (old new : Setting X) (s : Status) where
+  pub replayed_exactly : Replayed state old new s → IfSome old.left (λ bytes. (s ≡ status_of (log_of (λ x. (state x).limits) old.servers bytes).stop) ⊎ IsFault s)
   replayed_exactly r = by r.came
     where
-      by : Early state old left held held' servers servers' s ⊎ Started state old left held held' servers servers' tables' downs' s → IfSome old (λ bytes. (s ≡ status_of (log_of (λ x. (state x).limits) servers bytes).stop) ⊎ IsFault s)
-      by (inl h) = ends_exactly old left (log_of (λ x. (state x).limits) servers) s [] h.stopped.ends
-      by (inr h) = ends_exactly old left (log_of (λ x. (state x).limits) servers) s h.ran.events h.ran.ends
+      by : Early state old new s ⊎ Started state old new s → IfSome old.left (λ bytes. (s ≡ status_of (log_of (λ x. (state x).limits) old.servers bytes).stop) ⊎ IsFault s)
+      by (inl h) = ends_exactly old.left new.left (log_of (λ x. (state x).limits) old.servers) s [] h.stopped.ends
+      by (inr h) = ends_exactly old.left new.left (log_of (λ x. (state x).limits) old.servers) s h.ran.events h.ran.ends
 
   -- a replay is no wrong command
-  pub replayed_no_usage : Replayed state old left held held' servers servers' tables' downs' s → s ≡ status.Usage → ⊥
+  pub replayed_no_usage : Replayed state old new s → s ≡ status.Usage → ⊥
   replayed_no_usage r = by r.came
     where
-      by : Early state old left held held' servers servers' s ⊎ Started state old left held held' servers servers' tables' downs' s → s ≡ status.Usage → ⊥
-      by (inl h) e = ends_no_usage old left (log_of (λ x. (state x).limits) servers) s [] h.stopped.ends e
-      by (inr h) e = ends_no_usage old left (log_of (λ x. (state x).limits) servers) s h.ran.events h.ran.ends e
+      by : Early state old new s ⊎ Started state old new s → s ≡ status.Usage → ⊥
+      by (inl h) e = ends_no_usage old.left new.left (log_of (λ x. (state x).limits) old.servers) s [] h.stopped.ends e
+      by (inr h) e = ends_no_usage old.left new.left (log_of (λ x. (state x).limits) old.servers) s h.ran.events h.ran.ends e

@@ -1,6 +1,7 @@
 pub mod Beginning
 pub mod Benches
 pub mod Exact
+pub mod Points
 pub mod Records
 pub mod Replaying
 pub mod Stepped

@@ -20,7 +20,7 @@ use Rattle.basefs.specs.Log.{Log, Stop, whole, bad, not_built, too_few, too_smal
 use Rattle.basefs.specs.Run.{IsPrefix, Says, Snapshot, Ran, Stopped, IsEarly, status_of}
 use Rattle.basefs.specs.Going.{Goes, read_status}
 use Rattle.basefs.specs.Turns.{snapshot}
-use Rattle.basefs.specs.Replayed.{all_records, RunsAll, IsBench, Refuses, ChangesAt, Early, Started, Replayed}
+use Rattle.basefs.specs.Replayed.{all_records, RunsAll, IsBench, Refuses, ChangesAt, setting, Early, Started, Replayed}
 use Rattle.basefs.proofs.Records.{or_false}
 use Rattle.basefs.proofs.Taking.{HoldsOf-always, IfSome-then, prefix_none, Ends-then}
 
@@ -126,40 +126,51 @@ module _ {X : Type 0} (most : X → ServerLimits) (servers : List X) where
       → Ran (limits_of h) (all_records (limits_of h)) (snapshot left held server table downs) new s
       → (ran : Ran (limits_of h) (log_of most servers) (snapshot old held server table []) new s) × (behind : List ℕ) × (header_at ran.ends.taken ≡ Some (h, behind))
   unfolding Ends-then header_read
-  ran_whole old left held server table downs new h s r f w p = (
-    record {
-      events = p.events;
-      ends = Ends-then (header_read old left h r f w) p.ends;
-      printed = p.printed;
-      right = p.right;
-      requests = p.requests;
-      stands = p.stands;
-      numbered = p.numbered;
-      met = p.met;
-      rose = p.rose;
-      quiet = p.quiet;
-      limits_stay = p.limits_stay;
-    },
-    p.ends.taken,
-    r.outcome p.ends.taken,
-  )
+  ran_whole old left held server table downs new h s r f w p =
+      let read = header_read old left h r f w in (
+        record {
+          events = p.events;
+          ends = Ends-then read p.ends;
+          printed = p.printed;
+          cut = p.cut;
+          unread = λ e. ap (λ (l : Log). l.events) (read.goes p.ends.taken) ∙ p.unread e;
+          right = p.right;
+          requests = p.requests;
+          stands = p.stands;
+          points = p.points;
+          met = p.met;
+          rose = p.rose;
+          quiet = p.quiet;
+          limits_stay = p.limits_stay;
+        },
+        p.ends.taken,
+        r.outcome p.ends.taken,
+      )
 
 -- REPLAYS
 
 -- nothing was started
-pub replayed_early : {X : Type 0} (state : X → Server) (left left' held : Option (List ℕ)) (servers servers' : List X) (tables' : List ConfTable) (downs' : List FaultPoint) (s : Status) → servers' ≡ servers
-    → Stopped left left' (log_of (λ x. (state x).limits) servers) s → Replayed state left left' held held servers servers' tables' downs' s
-replayed_early state left left' held servers servers' tables' downs' s same h = record {
-  came = inl (record { stopped = h; held_stays = refl; servers_stay = λ no. same });
+pub replayed_early : {X : Type 0} (state : X → Server) (left left' held : Option (List ℕ)) (servers : List X) (tables : List ConfTable) (downs : List FaultPoint) (s : Status)
+    → Stopped left left' (log_of (λ x. (state x).limits) servers) s → Replayed state (setting left held servers tables downs) (setting left' held servers tables downs) s
+replayed_early state left left' held servers tables downs s h = record {
+  came = inl (record { stopped = h; held_stays = refl; bench_stays = λ no. record { servers = refl; tables = refl; downs = refl }; downs_known = inr refl });
+  others = changes_none 0 servers;
+}
+
+-- memory wanted while the tables were made
+pub replayed_unprepared : {X : Type 0} (state : X → Server) (left left' held : Option (List ℕ)) (servers servers' : List X) (tables tables' : List ConfTable) (downs downs' : List FaultPoint) → servers' ≡ servers → downs' ≡ []
+    → Stopped left left' (log_of (λ x. (state x).limits) servers) status.NoMemory → Replayed state (setting left held servers tables downs) (setting left' held servers' tables' downs') status.NoMemory
+replayed_unprepared state left left' held servers servers' tables tables' downs downs' same none h = record {
+  came = inl (record { stopped = h; held_stays = refl; bench_stays = λ no. absurd (no refl); downs_known = inl none });
   others = subst (ChangesAt 0 servers) (sym same) (changes_none 0 servers);
 }
 
-pub replayed_run : {X : Type 0} (state : X → Server) (old left left' held held' : Option (List ℕ)) (servers mid : List X) (tables : List ConfTable) (downs downs' : List FaultPoint) (h : Header) (s : Status) (x v : X) (t w : ConfTable)
+pub replayed_run : {X : Type 0} (state : X → Server) (old left left' held held' : Option (List ℕ)) (servers mid : List X) (tables before : List ConfTable) (downs downs' earlier : List FaultPoint) (h : Header) (s : Status) (x v : X) (t w : ConfTable)
     → mid ≡ servers → 1 ≤ length tables → x ≡ get_or mid 0 x → t ≡ get_or tables 0 t
     → Reads header_at (λ (y : Header). y) old left (Ok h) → (h.f == 0) ≡ true → Refuses (λ y. (state y).limits) h servers None
     → RunsAll (limits_of h) (snapshot left held (state x) t downs) (snapshot left' held' (state v) w downs') s
-    → Replayed state old left' held held' servers (slice_set mid 0 v) (slice_set tables 0 w) downs' s
-replayed_run {X} state old left left' held held' servers mid tables downs downs' h s x v t w same some is_x is_t r f none run =
+    → Replayed state (setting old held servers before earlier) (setting left' held' (slice_set mid 0 v) (slice_set tables 0 w) downs') s
+replayed_run {X} state old left left' held held' servers mid tables before downs downs' earlier h s x v t w same some is_x is_t r f none run =
     record { came = by run; others = subst (λ (xs : List X). ChangesAt 0 xs (slice_set mid 0 v)) same (changes_set mid 0 v) }
   where
     at_x : slice_get mid 0 ≡ Some x
@@ -169,7 +180,8 @@ replayed_run {X} state old left left' held held' servers mid tables downs downs'
     at_t = read_at tables t some is_t
 
     by : RunsAll (limits_of h) (snapshot left held (state x) t downs) (snapshot left' held' (state v) w downs') s
-        → Early state old left' held held' servers (slice_set mid 0 v) s ⊎ Started state old left' held held' servers (slice_set mid 0 v) (slice_set tables 0 w) downs' s
+        → let before = setting old held servers before earlier in let now = setting left' held' (slice_set mid 0 v) (slice_set tables 0 w) downs' in
+        Early state before now s ⊎ Started state before now s
     by (inl p) =
         let q = ran_whole (λ y. (state y).limits) servers old left held (state x) t downs (snapshot left' held' (state v) w downs') h s r f none p in
         inr (record {
@@ -191,5 +203,6 @@ replayed_run {X} state old left left' held held' servers mid tables downs downs'
           stopped = subst (Stopped old left' (log_of (λ y. (state y).limits) servers)) (sym p.0)
               (subst (λ (l : Option (List ℕ)). Stopped old l (log_of (λ y. (state y).limits) servers) status.NoMemory) (sym stay) (stopped_short (λ y. (state y).limits) servers old left h r));
           held_stays = p.1.held;
-          servers_stay = λ no. absurd (no p.0);
+          bench_stays = λ no. absurd (no p.0);
+          downs_known = inl p.1.downs;
         })

@@ -1,10 +1,9 @@
 -- A run that goes on by one record, and one that stops.
-use Rattle.std.proofs.Common.{◌≡◌, ℕ, suc, ◌+◌, ◌≤◌, List, [], ◌∷◌, ◌++◌, length, map, Option, Some, None, Ok, Err, refl, sym, ap, subst, ◌∙◌, length-append, append_assoc, arith}
+use Rattle.std.proofs.Common.{◌≡◌, ℕ, suc, ◌+◌, ◌≤◌, List, [], ◌∷◌, ◌++◌, length, map, Option, Some, None, Ok, Err, inl, inr, refl, sym, ap, subst, ◌∙◌, length-append, append_assoc, arith}
 use Rattle.std.specs.List.{All, flat_map}
 use Rattle.std.specs.Io.KnownBytes.{Appends}
 use Rattle.std.proofs.lemmas.List.{map-append, append-nil}
 use Rattle.std.proofs.lemmas.List.Concat.{flat_map-append}
-use Rattle.std.proofs.lemmas.List.Elements.{All-append}
 use Rattle.nfs2_types.specs.declared.Limits.{Limits}
 use Rattle.nfs2_types.specs.declared.Word.{Word}
 use Rattle.server_trait.specs.Tree.{Tree, Server}
@@ -24,12 +23,13 @@ use Rattle.cluster.specs.Step.{Moment, step, last}
 use Rattle.cluster.specs.Run.{faults_in, end_of, asked_by, requests_of, failed_of, AreMet}
 use Rattle.cluster.specs.Right.{IsRight}
 use Rattle.cluster.specs.OverBench.{Kept, IsSeat, IsState, RoseBy, Moves, Steps, HasArray}
-use Rattle.cluster.proofs.Growing.{end_more}
+use Rattle.cluster.proofs.Growing.{end_more, end_stays}
 use Rattle.cluster.proofs.Calm.{end_right, end_requests}
 use Rattle.basefs.specs.declared.status.Status.{Status}
 use Rattle.basefs.specs.declared.status.Status.TheVariants as status
 use Rattle.basefs.specs.Log.{Log}
-use Rattle.basefs.specs.Run.{IsPrefix, Ends, Wrote, Printed, Snapshot, SeatStands, Ran}
+use Rattle.basefs.specs.Run.{IsPrefix, Ends, Wrote, Printed, Snapshot, SeatStands, ArePoints, IsCutAtLast, Ran}
+use Rattle.basefs.proofs.Points.{points_then}
 use Rattle.basefs.specs.Going.{Here, write_status}
 
 -- THE REPLICA'S ARRAY
@@ -90,17 +90,17 @@ module _ {limits : Limits} {old mid now : Server} {table table' : ConfTable} {do
   abbrev pub m : Moment
   m = end_of (service limits) downs events
 
-  numbered : All (λ (d : FaultPoint). d.event ≡ suc (length events)) s.met
-  numbered = all_as (λ (d : FaultPoint). (d.event ≡ suc kept.events) × (d.replica ≡ 0)) (λ (d : FaultPoint). d.event ≡ suc (length events)) s.met (λ d p. p.0 ∙ ap suc h.counted) s.numbered
+  points_here : All (λ (d : FaultPoint). (d.event ≡ suc (length events)) × (d.replica ≡ 0)) s.met
+  points_here = all_as (λ (d : FaultPoint). (d.event ≡ suc kept.events) × (d.replica ≡ 0)) (λ (d : FaultPoint). (d.event ≡ suc (length events)) × (d.replica ≡ 0)) s.met (λ d p. (p.0 ∙ ap suc h.counted, p.1)) s.numbered
 
-  before : All (λ (d : FaultPoint). d.event ≤ length events) downs
-  before = all_as (λ (d : FaultPoint). (d.event ≤ length events) × (d.replica ≡ 0)) (λ (d : FaultPoint). d.event ≤ length events) downs (λ d p. p.0) h.points
+  numbered : All (λ (d : FaultPoint). d.event ≡ suc (length events)) s.met
+  numbered = all_as (λ (d : FaultPoint). (d.event ≡ suc (length events)) × (d.replica ≡ 0)) (λ (d : FaultPoint). d.event ≡ suc (length events)) s.met (λ d p. p.0) points_here
 
   moved : IsState limits kept'.requests kept'.place now.tree table' (last m (step (service limits) (faults_in s.met (suc (length events))) e m)) × ((last m (step (service limits) (faults_in s.met (suc (length events))) e m)).lines ≡ m.lines ++ lines)
   moved = moves_at limits (length events) kept kept' mid.tree now.tree table table' s.met e lines h.limits_are s.limits h.counted s.moves m h.state
 
   end_is : end_of (service limits) downs' (events ++ e ∷ []) ≡ last m (step (service limits) (faults_in s.met (suc (length events))) e m)
-  end_is = ap (λ (d : List FaultPoint). end_of (service limits) d (events ++ e ∷ [])) s.downs_are ∙ end_more (service limits) downs s.met events e numbered before
+  end_is = ap (λ (d : List FaultPoint). end_of (service limits) d (events ++ e ∷ [])) s.downs_are ∙ end_more (service limits) downs s.met events e numbered h.points.events
 
   lines_more : (end_of (service limits) downs' (events ++ e ∷ [])).lines ≡ m.lines ++ lines
   lines_more = ap (λ (n : Moment). n.lines) end_is ∙ moved.1
@@ -108,13 +108,8 @@ module _ {limits : Limits} {old mid now : Server} {table table' : ConfTable} {do
   one_more : length (events ++ e ∷ []) ≡ suc (length events)
   one_more = omega (arith, length-append events (e ∷ []))
 
-  abbrev Point : ℕ → FaultPoint → Type 0
-  Point n d = (d.event ≤ n) × (d.replica ≡ 0)
-
-  points_more : All (Point (length (events ++ e ∷ []))) (downs ++ s.met)
-  points_more = All-append (Point (length (events ++ e ∷ []))) downs s.met
-      (all_as (Point (length events)) (Point (length (events ++ e ∷ []))) downs (λ d p. (omega (arith, p.0, one_more), p.1)) h.points)
-      (all_as (λ (d : FaultPoint). (d.event ≡ suc kept.events) × (d.replica ≡ 0)) (Point (length (events ++ e ∷ []))) s.met (λ d p. (omega (arith, p.0, one_more, h.counted), p.1)) s.numbered)
+  points_more : ArePoints limits (length (events ++ e ∷ [])) (downs ++ s.met)
+  points_more = subst (λ (n : ℕ). ArePoints limits n (downs ++ s.met)) (sym one_more) (points_then limits (length events) downs s.met h.points points_here)
 
   met_more : AreMet (downs ++ s.met) (m.lines ++ lines)
   met_more = map-append (λ (d : FaultPoint). d.replica) downs s.met ∙ ap (λ t. t ++ map (λ (d : FaultPoint). d.replica) s.met) h.met ∙ ap (λ t. flat_map failed_of m.lines ++ t) s.lines_are ∙ sym (flat_map-append failed_of m.lines lines)
@@ -132,7 +127,7 @@ module _ {limits : Limits} {old mid now : Server} {table table' : ConfTable} {do
     requests = s.requests ∙ ap (λ q. q ++ asked_by e) h.requests ∙ sym (flat_map-append asked_by events (e ∷ []) ∙ ap (λ q. requests_of events ++ q) (append-nil (asked_by e)));
     counted = s.events ∙ ap suc h.counted ∙ sym one_more;
     limits_are = s.limits ∙ h.limits_are;
-    points = subst (All (Point (length (events ++ e ∷ [])))) (sym s.downs_are) points_more;
+    points = subst (ArePoints limits (length (events ++ e ∷ []))) (sym s.downs_are) points_more;
     met = subst (λ (d : List FaultPoint). AreMet d (end_of (service limits) downs' (events ++ e ∷ [])).lines) (sym s.downs_are) (subst (AreMet (downs ++ s.met)) (sym lines_more) met_more);
     rose = rw (s.downs_are, length-append downs s.met) (rose_then (length downs) (length s.met) old.faults mid.faults now.faults h.rose s.struck.rose);
     quiet = λ none. quiet_more (sym s.downs_are ∙ none);
@@ -142,22 +137,41 @@ module _ {limits : Limits} {old mid now : Server} {table table' : ConfTable} {do
   pub text_more : text_of (end_of (service limits) downs' (events ++ e ∷ [])).lines ≡ text_of m.lines ++ text_of lines
   text_more = ap text_of lines_more ∙ flat_map-append line_text m.lines lines
 
+  -- the records before this one had the same lines
+  pub text_before : text_of (end_of (service limits) downs' events).lines ≡ text_of m.lines
+  text_before = ap (λ (d : List FaultPoint). text_of (end_of (service limits) d events).lines) s.downs_are ∙ ap (λ (n : Moment). text_of n.lines) (end_stays (service limits) downs s.met events numbered)
+
+  -- the lines of this record were written in part
+  pub cut_here : (part : List ℕ) → IsCutAtLast limits downs' (events ++ e ∷ []) (text_of m.lines ++ part)
+  cut_here part = record { before = events; last = e ∷ []; parts = refl; one = omega arith; written = inr (part, ap (λ t. t ++ part) (sym text_before)) }
+
+-- all lines were written
+pub cut_whole : (limits : Limits) (downs : List FaultPoint) (events : List Event) → IsCutAtLast limits downs events (text_of (end_of (service limits) downs events).lines)
+cut_whole limits downs events = record { before = events; last = []; parts = sym (append-nil events); one = omega arith; written = inr ([], sym (append-nil (text_of (end_of (service limits) downs events).lines))) }
+
+-- the lines of the start were written in part
+pub cut_start : (limits : Limits) (downs : List FaultPoint) (part : List ℕ) → IsCutAtLast limits downs [] part
+cut_start limits downs part = record { before = []; last = []; parts = refl; one = omega arith; written = inl refl }
+
 -- WHERE A RUN STOPS
 
 -- where it stands
 pub ran_here : {limits : Limits} {old now : Snapshot} {kept : Kept} {events : List Event} {log : List ℕ → Log} {s : Status} → limits.f ≡ 0 → Here limits old.server now.server now.table now.downs kept events
-    → Ends old.left now.left log s events → Printed old.held now.held s (text_of (end_of (service limits) now.downs events).lines) → Ran limits log old now s
+    → (ends : Ends old.left now.left log s events) → (s ≡ status.WriteFault → (log ends.taken).events ≡ events)
+    → (printed : Printed old.held now.held s (text_of (end_of (service limits) now.downs events).lines)) → IsCutAtLast limits now.downs events printed.part → Ran limits log old now s
 unfolding service
-ran_here {limits = limits} {now = now} {events = events} one h ends printed =
+ran_here {limits = limits} {now = now} {events = events} one h ends unread printed cut =
     let right = end_right (service limits) one now.downs events in
     record {
       events = events;
       ends = ends;
       printed = printed;
+      cut = cut;
+      unread = unread;
       right = right;
       requests = end_requests (service limits) one now.downs events;
       stands = λ no. stands h.state right;
-      numbered = all_as (λ (d : FaultPoint). (d.event ≤ length events) × (d.replica ≡ 0)) (λ (d : FaultPoint). d.replica ≡ 0) now.downs (λ d p. p.1) h.points;
+      points = h.points;
       met = h.met;
       rose = h.rose;
       quiet = λ no. h.quiet;
@@ -166,17 +180,19 @@ ran_here {limits = limits} {now = now} {events = events} one h ends printed =
 
 -- memory wanted while the next record was stepped
 pub ran_short : {limits : Limits} {old now : Snapshot} {kept : Kept} {events : List Event} {log : List ℕ → Log} {mid : Server} {table : ConfTable} → limits.f ≡ 0 → Here limits old.server mid table now.downs kept events
-    → mid.faults ≤ now.server.faults → now.server.limits ≡ mid.limits
-    → Ends old.left now.left log status.NoMemory events → Printed old.held now.held status.NoMemory (text_of (end_of (service limits) now.downs events).lines) → Ran limits log old now status.NoMemory
+    → mid.faults ≤ now.server.faults → now.server.limits ≡ mid.limits → Ends old.left now.left log status.NoMemory events
+    → (printed : Printed old.held now.held status.NoMemory (text_of (end_of (service limits) now.downs events).lines)) → IsCutAtLast limits now.downs events printed.part → Ran limits log old now status.NoMemory
 unfolding service
-ran_short {limits = limits} {old = old} {now = now} {events = events} {mid = mid} one h later same ends printed = record {
+ran_short {limits = limits} {old = old} {now = now} {events = events} {mid = mid} one h later same ends printed cut = record {
   events = events;
   ends = ends;
   printed = printed;
+  cut = cut;
+  unread = λ e. absurd (let other : status.NoMemory ≡ status.WriteFault = e in cc);
   right = end_right (service limits) one now.downs events;
   requests = end_requests (service limits) one now.downs events;
   stands = λ no. absurd (no refl);
-  numbered = all_as (λ (d : FaultPoint). (d.event ≤ length events) × (d.replica ≡ 0)) (λ (d : FaultPoint). d.replica ≡ 0) now.downs (λ d p. p.1) h.points;
+  points = h.points;
   met = h.met;
   rose = rose_later (length now.downs) old.server.faults mid.faults now.server.faults h.rose later;
   quiet = λ no. absurd (no refl);
@@ -198,15 +214,15 @@ wrote_all (status.TooFewServers have need) text = refl
 wrote_all (status.ServerTooSmall server) text = refl
 wrote_all (status.NotBuilt at) text = refl
 
-pub printed_all : {old now : Option (List ℕ)} {text : List ℕ} (s : Status) → Appends old now text → Printed old now s text
+abbrev pub printed_all : {old now : Option (List ℕ)} {text : List ℕ} (s : Status) → Appends old now text → Printed old now s text
 printed_all {text = text} s a = record { part = text; appended = a; wrote = wrote_all s text }
 
-wrote_part : (w : SinkErr) (part text : List ℕ) → IsPrefix part text → Wrote (write_status w) part text
+pub wrote_part : (w : SinkErr) (part text : List ℕ) → IsPrefix part text → Wrote (write_status w) part text
 wrote_part sink.Failed part text h = h
 wrote_part sink.NoMemory part text h = h
 
 -- a text, and a part of what follows it
-pub printed_part : {T : Type 0} {old mid now : Option (List ℕ)} {text whole : List ℕ} {w : SinkErr} (front : List ℕ) → Appends old mid front → Writes {T = T} mid now text (Err w) → whole ≡ front ++ text → Printed old now (write_status w) whole
+abbrev pub printed_part : {T : Type 0} {old mid now : Option (List ℕ)} {text whole : List ℕ} {w : SinkErr} (front : List ℕ) → Appends old mid front → Writes {T = T} mid now text (Err w) → whole ≡ front ++ text → Printed old now (write_status w) whole
 printed_part {old = old} {mid = mid} {now = now} {text = text} {whole = whole} {w = w} front a p is = record {
   part = front ++ p.part;
   appended = Appends-then old mid now front p.part a p.appended;

@@ -1,13 +1,15 @@
 -- What a turn of a run comes to.
-use Rattle.std.proofs.Common.{◌≡◌, ◌⊎◌, inl, inr, ℕ, suc, ◌+◌, ◌≤◌, List, [], ◌∷◌, ◌++◌, Option, Result, Ok, Err, refl, sym, ap, subst, ◌∙◌}
+use Rattle.std.proofs.Common.{◌≡◌, ◌⊎◌, inl, inr, ℕ, zero, suc, ◌+◌, ◌≤◌, List, [], ◌∷◌, ◌++◌, Option, None, Result, Ok, Err, refl, sym, ap, subst, ◌∙◌}
 use Rattle.std.proofs.lemmas.List.{append-nil}
 use Rattle.nfs2_types.specs.declared.Limits.{Limits}
 use Rattle.server_trait.specs.Tree.{Server}
 use Rattle.server_trait.specs.declared.ConfTable.{ConfTable}
 use Rattle.server_trait.specs.declared.FaultPoint.{FaultPoint}
 use Rattle.log_format.specs.declared.Event.{Event}
+use Rattle.log_format.specs.Items.{piece_at, word_at}
 use Rattle.log_format.specs.Records.{record_at, record_len}
 use Rattle.log_stream.specs.declared.ReadErr.{ReadErr}
+use Rattle.log_stream.specs.declared.ReadErr.TheVariants as read
 use Rattle.log_stream.specs.Reading.{Reads}
 use Rattle.outside.specs.declared.SinkErr.{SinkErr}
 use Rattle.outside.specs.declared.SinkErr.TheVariants as sink
@@ -19,22 +21,61 @@ use Rattle.basefs.specs.declared.status.Status.TheVariants as status
 use Rattle.basefs.specs.declared.verdict.Verdict.TheVariants as verdict
 use Rattle.basefs.specs.declared.turn.Turn.TheVariants as turns
 use Rattle.basefs.specs.Log.{Log, stops, behind_last, judge, records_from}
-use Rattle.basefs.specs.Run.{Snapshot, Ends, Ran}
-use Rattle.basefs.specs.Going.{Goes, Going, Turns, Finishes, read_status, write_status}
+use Rattle.basefs.specs.Run.{IsPrefix, HoldsOf, Says, Snapshot, Ends, Ran}
+use Rattle.basefs.specs.Going.{Goes, Going, Turns, FinishSays, Finishes, read_status, write_status}
 use Rattle.basefs.specs.Turns.{snapshot, Stepped, Written}
-use Rattle.basefs.proofs.Taking.{Ends-then, Goes-then, over_read, over_wrong, over_waits, over_memory, one_goes, over_write, last_goes, over_finish, over_most}
-use Rattle.basefs.proofs.Stepped.{here_more, text_more, ran_here, ran_short, printed_all, printed_part, appended_all}
+use Rattle.basefs.proofs.Records.{records_zero, records_none}
+use Rattle.basefs.proofs.Taking.{Ends-then, Goes-then, HoldsOf-always, over_read, over_wrong, over_waits, over_memory, one_goes, last_goes, over_finish, over_most}
+use Rattle.basefs.proofs.Stepped.{here_more, text_more, ran_here, ran_short, cut_here, cut_whole, printed_all, printed_part, appended_all}
+
+-- A WRITE THAT FAILS
+
+none_left : record_at [] ≡ None
+unfolding record_at word_at piece_at
+none_left = refl
+
+-- no bytes are no records
+pub nothing_more : (n k : ℕ) (q : List Request) (place : ℕ) → (records_from n k q place []).events ≡ []
+nothing_more zero k q place = ap (λ (l : Log). l.events) (records_zero k q place [])
+nothing_more (suc n) k q place = ap (λ (l : Log). l.events) (records_none n k q place [] none_left)
+
+module _ {old left : Option (List ℕ)} {log rest : List ℕ → Log} {events : List Event} where
+  front_of : (p : Goes old left log rest events) → HoldsOf log p.taken left (λ l. IsPrefix events l.events)
+  front_of p = HoldsOf-always log p.taken left (λ l. IsPrefix events l.events) (λ more. ((rest more).events, ap (λ (l : Log). l.events) (p.goes more)))
+
+  pub front_says : (w : SinkErr) (p : Goes old left log rest events) → Says (write_status w) log p.taken left events
+  front_says sink.Failed p = front_of p
+  front_says sink.NoMemory p = front_of p
+
+  -- these records were stepped, and a write failed
+  abbrev pub ends_at_write : (w : SinkErr) → Goes old left log rest events → Ends old left log (write_status w) events
+  ends_at_write w p = record { taken = p.taken; consumed = p.consumed; says = front_says w p }
+
+  -- nothing was read behind them
+  pub unread_at_write : (p : Goes old left log rest events) → (rest []).events ≡ [] → (log p.taken).events ≡ events
+  unread_at_write p none =
+      ap (λ (t : List ℕ). (log t).events) (sym (append-nil p.taken)) ∙ ap (λ (l : Log). l.events) (p.goes []) ∙ ap (λ (t : List Event). events ++ t) none ∙ append-nil events
+
+read_no_write : (e : ReadErr) (at : ℕ) → read_status e at ≡ status.WriteFault → ⊥
+read_no_write read.Failed at e = let f : status.ReadFault ≡ status.WriteFault = e in cc
+read_no_write read.NoMemory at e = let f : status.NoMemory ≡ status.WriteFault = e in cc
+read_no_write read.Wrong at e = let f : status.BadLog at ≡ status.WriteFault = e in cc
+
+finish_no_write : {old left : Option (List ℕ)} {place : ℕ} {f : Status} → Finishes old left place f → f ≡ status.WriteFault → ⊥
+finish_no_write {left = left} {place = place} p e = subst (λ (s : Status). FinishSays s place p.taken left) e p.says
+
+-- WHERE A RUN STOPS
 
 -- the run stops, and nothing was stepped
 pub stops_here : {limits : Limits} {log : List ℕ → Log} {old : Snapshot} {left left' held : Option (List ℕ)} {server : Server} {table : ConfTable} {downs : List FaultPoint} {kept : Kept} {n place : ℕ} {s : Status} →
-    limits.f ≡ 0 → Going limits log old (snapshot left held server table downs) kept n place → Ends left left' (records_from n limits.k kept.requests place) s [] → Ran limits log old (snapshot left' held server table downs) s
-stops_here {log = log} {old = old} {left' = left'} {s = s} one g ends =
-    ran_here one g.here (subst (Ends old.left left' log s) (append-nil g.events) (Ends-then g.goes ends)) (printed_all s g.printed)
+    limits.f ≡ 0 → Going limits log old (snapshot left held server table downs) kept n place → (s ≡ status.WriteFault → ⊥) → Ends left left' (records_from n limits.k kept.requests place) s [] → Ran limits log old (snapshot left' held server table downs) s
+stops_here {limits = limits} {log = log} {old = old} {left' = left'} {downs = downs} {s = s} one g differs ends =
+    ran_here one g.here (subst (Ends old.left left' log s) (append-nil g.events) (Ends-then g.goes ends)) (λ e. absurd (differs e)) (printed_all s g.printed) (cut_whole limits downs g.events)
 
 -- no more records are read
 pub stops_most : {limits : Limits} {log : List ℕ → Log} {old : Snapshot} {left held : Option (List ℕ)} {server : Server} {table : ConfTable} {downs : List FaultPoint} {kept : Kept} {place : ℕ} →
     limits.f ≡ 0 → Going limits log old (snapshot left held server table downs) kept 0 place → Ran limits log old (snapshot left held server table downs) (status.BadLog place)
-stops_most {limits = limits} {left = left} {kept = kept} {place = place} one g = stops_here one g (over_most left limits.k kept.requests place)
+stops_most {limits = limits} {left = left} {kept = kept} {place = place} one g = stops_here one g (λ e. let f : status.BadLog place ≡ status.WriteFault = e in cc) (over_most left limits.k kept.requests place)
 
 module _ (k : ℕ) (left left' held : Option (List ℕ)) (server : Server) (table : ConfTable) (downs : List FaultPoint) (kept : Kept) (place : ℕ) (e : Event) (kept_k : k ≡ kept.limits.k) (r : Reads record_at (λ (x : Event). x) left left' (Ok e)) where
   abbrev Before : Limits → (List ℕ → Log) → Snapshot → ℕ → Type 0
@@ -44,10 +85,10 @@ module _ (k : ℕ) (left left' held : Option (List ℕ)) (server : Server) (tabl
   judged limits log old n v g j = subst (λ (i : ℕ). judge i kept.requests e ≡ v) (kept_k ∙ ap (λ (l : Limits). l.k) g.here.limits_are) j
 
   pub turn_wrong : judge k kept.requests e ≡ verdict.Wrong → Turns (snapshot left held server table downs) (snapshot left' held server table downs) kept kept place (turns.Over (status.BadLog place))
-  turn_wrong j limits log old n one g = stops_here one g (over_wrong n limits.k kept.requests place r (judged limits log old (suc n) verdict.Wrong g j))
+  turn_wrong j limits log old n one g = stops_here one g (λ e. let f : status.BadLog place ≡ status.WriteFault = e in cc) (over_wrong n limits.k kept.requests place r (judged limits log old (suc n) verdict.Wrong g j))
 
   pub turn_waits : judge k kept.requests e ≡ verdict.Waits → Turns (snapshot left held server table downs) (snapshot left' held server table downs) kept kept place (turns.Over (status.NotBuilt place))
-  turn_waits j limits log old n one g = stops_here one g (over_waits n limits.k kept.requests place r (judged limits log old (suc n) verdict.Waits g j))
+  turn_waits j limits log old n one g = stops_here one g (λ e. let f : status.NotBuilt place ≡ status.WriteFault = e in cc) (over_waits n limits.k kept.requests place r (judged limits log old (suc n) verdict.Waits g j))
 
   module _ (held' : Option (List ℕ)) (server' : Server) (table' : ConfTable) (downs' : List FaultPoint) (kept' : Kept) where
     -- a record was stepped, and its lines were written
@@ -61,13 +102,13 @@ module _ (k : ℕ) (left left' held : Option (List ℕ)) (server : Server) (tabl
       here = here_more g.here w.steps;
     }
 
-    wrote_part : (limits : Limits) (log : List ℕ → Log) (old : Snapshot) (n : ℕ) (f : SinkErr) (rest : List ℕ → Log) → limits.f ≡ 0 → (g : Before limits log old (suc n))
+    wrote_part : (limits : Limits) (log : List ℕ → Log) (old : Snapshot) (n : ℕ) (f : SinkErr) (rest : List ℕ → Log) → (rest []).events ≡ [] → limits.f ≡ 0 → (g : Before limits log old (suc n))
         → Goes left left' (records_from (suc n) limits.k kept.requests place) rest (e ∷ []) → Written kept kept' server server' table table' downs downs' held held' e (Err f)
         → Ran limits log old (snapshot left' held' server' table' downs') (write_status f)
-    wrote_part limits log old n f rest one g goes w =
-        ran_here one (here_more g.here w.steps)
-        (subst (Ends old.left left' log (write_status f)) (append-nil (g.events ++ e ∷ [])) (Ends-then (Goes-then g.goes goes) (over_write f rest left')))
-        (printed_part _ g.printed w.writes (text_more g.here w.steps))
+    wrote_part limits log old n f rest none one g goes w =
+        let all = Goes-then g.goes goes in
+        ran_here one (here_more g.here w.steps) (ends_at_write f all) (λ e. unread_at_write all none)
+        (printed_part _ g.printed w.writes (text_more g.here w.steps)) (cut_here g.here w.steps w.writes.part)
 
     wanted : (limits : Limits) (log : List ℕ → Log) (old : Snapshot) (n : ℕ) → server.faults ≤ server'.faults → server'.limits ≡ server.limits → downs' ≡ downs → held' ≡ held → limits.f ≡ 0
         → Before limits log old n → Ran limits log old (snapshot left' held' server' table' downs') status.NoMemory
@@ -76,7 +117,7 @@ module _ (k : ℕ) (left left' held : Option (List ℕ)) (server : Server) (tabl
         (subst (λ (x : Option (List ℕ)). Ran limits log old (snapshot left' x server' table' downs) status.NoMemory) (sym h)
         (ran_short one g.here later same
         (subst (Ends old.left left' log status.NoMemory) (append-nil g.events) (Ends-then g.goes (over_memory (records_from n limits.k kept.requests place) r)))
-        (printed_all status.NoMemory g.printed)))
+        (printed_all status.NoMemory g.printed) (cut_whole limits downs g.events)))
 
     err_is : (f : SinkErr) (x : Result Unit SinkErr) → x ≡ Err f → x ≡ Err sink.NoMemory → write_status f ≡ status.NoMemory
     err_is f x h k = let same : f ≡ sink.NoMemory = cc in ap write_status same
@@ -86,9 +127,9 @@ module _ (k : ℕ) (left left' held : Option (List ℕ)) (server : Server) (tabl
         → Stepped kept kept' server server' table table' downs downs' held held' e (Err f)
         → Turns (snapshot left held server table downs) (snapshot left' held' server' table' downs') kept kept' place (turns.Over (write_status f))
     turn_failed f later same (inl j) (inl w) limits log old n one g =
-        wrote_part limits log old n f (records_from n limits.k (kept.requests ++ asked_by e) (place + record_len e)) one g (one_goes n limits.k kept.requests place r (judged limits log old (suc n) verdict.Goes g j)) w
+        wrote_part limits log old n f (records_from n limits.k (kept.requests ++ asked_by e) (place + record_len e)) (nothing_more n limits.k (kept.requests ++ asked_by e) (place + record_len e)) one g (one_goes n limits.k kept.requests place r (judged limits log old (suc n) verdict.Goes g j)) w
     turn_failed f later same (inr j) (inl w) limits log old n one g =
-        wrote_part limits log old n f (λ more. stops (behind_last (place + record_len e) more)) one g (last_goes n limits.k kept.requests place r (judged limits log old (suc n) verdict.Ends g j)) w
+        wrote_part limits log old n f (λ more. stops (behind_last (place + record_len e) more)) refl one g (last_goes n limits.k kept.requests place r (judged limits log old (suc n) verdict.Ends g j)) w
     turn_failed f later same j (inr w) limits log old n one g =
         subst (Ran limits log old (snapshot left' held' server' table' downs')) (sym (err_is f _ refl w.is)) (wanted limits log old (suc n) later same w.downs_stay w.held_stay one g)
 
@@ -99,12 +140,12 @@ module _ (k : ℕ) (left left' held : Option (List ℕ)) (server : Server) (tabl
         ran_here one (here_more g.here w.steps)
         (subst (Ends old.left left'' log f) (append-nil (g.events ++ e ∷ []))
         (Ends-then (Goes-then g.goes (last_goes n limits.k kept.requests place r (judged limits log old (suc n) verdict.Ends g j))) (over_finish (place + record_len e) finish)))
-        (printed_all f (appended_all old.held _ g.printed w.writes (text_more g.here w.steps)))
+        (λ e. absurd (finish_no_write finish e)) (printed_all f (appended_all old.held _ g.printed w.writes (text_more g.here w.steps))) (cut_whole limits downs' (g.events ++ e ∷ []))
 
 -- no record was read
 pub turn_read : {k : ℕ} {left left' held : Option (List ℕ)} {server : Server} {table : ConfTable} {downs : List FaultPoint} {kept : Kept} {place : ℕ} {e : ReadErr} → k ≡ kept.limits.k → Reads record_at (λ (x : Event). x) left left' (Err e)
     → Turns (snapshot left held server table downs) (snapshot left' held server table downs) kept kept place (turns.Over (read_status e place))
-turn_read {kept = kept} {place = place} is r limits log old n one g = stops_here one g (over_read n limits.k kept.requests place r)
+turn_read {kept = kept} {place = place} {e = e} is r limits log old n one g = stops_here one g (read_no_write e place) (over_read n limits.k kept.requests place r)
 
 -- what was stepped was not wanted
 pub not_wanted : {kept kept' : Kept} {server server' : Server} {table table' : ConfTable} {downs downs' : List FaultPoint} {held held' : Option (List ℕ)} {e : Event} {x : Unit} → Stepped kept kept' server server' table table' downs downs' held held' e (Ok x) → Written kept kept' server server' table table' downs downs' held held' e (Ok x)

@@ -1,5 +1,5 @@
 -- A run that goes on: what was read, stepped and written so far.
-use Rattle.std.specs.Prelude.{◌≡◌, ℕ, suc, ◌≤◌, List, [], ◌++◌, length, Option, All}
+use Rattle.std.specs.Prelude.{◌≡◌, ℕ, suc, ◌≤◌, List, [], ◌++◌, length, Option}
 use Rattle.std.specs.Io.KnownBytes.{Consumes, Appends, IsAtEnd}
 use Rattle.nfs2_types.specs.declared.Limits.{Limits}
 use Rattle.server_trait.specs.Tree.{Server}
@@ -19,7 +19,7 @@ use Rattle.basefs.specs.declared.status.Status.TheVariants as statuses
 use Rattle.basefs.specs.declared.turn.Turn.{Turn}
 use Rattle.basefs.specs.declared.turn.Turn.TheVariants as turns
 use Rattle.basefs.specs.Log.{Log, records_from}
-use Rattle.basefs.specs.Run.{Snapshot, Ran}
+use Rattle.basefs.specs.Run.{Snapshot, ArePoints, Ran}
 
 -- these records, and then those of a log
 abbrev pub behind : List Event → Log → Log
@@ -39,7 +39,7 @@ pub record Here (limits : Limits) (old now : Server) (table : ConfTable) (downs 
   pub requests : kept.requests ≡ requests_of events
   pub counted : kept.events ≡ length events
   pub limits_are : kept.limits ≡ limits
-  pub points : All (λ (d : FaultPoint). (d.event ≤ length events) × (d.replica ≡ 0)) downs
+  pub points : ArePoints limits (length events) downs
   pub met : AreMet downs (end_of (service limits) downs events).lines
   pub rose : RoseBy (length downs) old.faults now.faults
   pub quiet : downs ≡ [] → now.faults ≡ old.faults

@@ -25,10 +25,11 @@ IsBench (too_few have need) = Unit {0}
 IsBench (too_small server) = Unit {0}
 IsBench s = ⊥
 
--- memory wanted before the replica was started
+-- memory wanted before the replica was started: no fault point is known
 pub record Unstarted (old new : Snapshot) : Type 0 where
   pub left : new.left ≡ old.left
   pub held : new.held ≡ old.held
+  pub downs : new.downs ≡ []
 
 -- the records of a log that begin at byte 24
 abbrev pub all_records : Limits → List ℕ → Log
@@ -57,33 +58,50 @@ pub record ChangesAt {X : Type 0} (r : ℕ) (old new : List X) : Type 0 where
   pub size : length new ≡ length old
   pub others : (k : ℕ) → k ≢ r → slice_get new k ≡ slice_get old k
 
--- No replica was started: nothing was written, and unless memory wanted, no server was called that changes it.
-pub record Early {X : Type 0} (state : X → Server) (left left' held held' : Option (List ℕ))
-    (servers servers' : List X) (ended : Status) : Type 0 where
-  pub stopped : Stopped left left' (log_of (λ s. (state s).limits) servers) ended
-  pub held_stays : held' ≡ held
-  pub servers_stay : ended ≢ status.NoMemory → servers' ≡ servers
+-- all that a replay may change: what the source has left and the sink holds, where they tell; and the bench
+pub record Setting (X : Type 0) : Type 0 where
+  pub left : Option (List ℕ)
+  pub held : Option (List ℕ)
+  pub servers : List X
+  pub tables : List ConfTable
+  pub downs : List FaultPoint
+
+abbrev pub setting : {X : Type 0} → Option (List ℕ) → Option (List ℕ) → List X → List ConfTable → List FaultPoint → Setting X
+setting left held servers tables downs =
+    record { left = left; held = held; servers = servers; tables = tables; downs = downs }
+
+-- servers, tables and fault points are as they were
+pub record SameBench {X : Type 0} (old new : Setting X) : Type 0 where
+  pub servers : new.servers ≡ old.servers
+  pub tables : new.tables ≡ old.tables
+  pub downs : new.downs ≡ old.downs
+
+-- No replica was started: nothing was written, and unless memory wanted, the bench is as it was. The fault points are
+-- as they were, or none.
+pub record Early {X : Type 0} (state : X → Server) (old new : Setting X) (ended : Status) : Type 0 where
+  pub stopped : Stopped old.left new.left (log_of (λ s. (state s).limits) old.servers) ended
+  pub held_stays : new.held ≡ old.held
+  pub bench_stays : ended ≢ status.NoMemory → SameBench old new
+  pub downs_known : (new.downs ≡ []) ⊎ (new.downs ≡ old.downs)
 
 -- The replica of the first server was started, and ran.
-pub record Started {X : Type 0} (state : X → Server) (left left' held held' : Option (List ℕ))
-    (servers servers' : List X) (tables' : List ConfTable) (downs' : List FaultPoint) (ended : Status) : Type 0 where
+pub record Started {X : Type 0} (state : X → Server) (old new : Setting X) (ended : Status) : Type 0 where
   pub server : X
-  pub is_server : slice_get servers 0 ≡ Some server
+  pub is_server : slice_get old.servers 0 ≡ Some server
   pub server' : X
-  pub is_server' : slice_get servers' 0 ≡ Some server'
+  pub is_server' : slice_get new.servers 0 ≡ Some server'
   -- as the table was before
   pub table : ConfTable
   pub table' : ConfTable
-  pub is_table' : slice_get tables' 0 ≡ Some table'
+  pub is_table' : slice_get new.tables 0 ≡ Some table'
   pub header : Header
-  pub ran : Ran (limits_of header) (log_of (λ s. (state s).limits) servers)
-      (snapshot left held (state server) table []) (snapshot left' held' (state server') table' downs') ended
+  pub ran : Ran (limits_of header) (log_of (λ s. (state s).limits) old.servers)
+      (snapshot old.left old.held (state server) table [])
+      (snapshot new.left new.held (state server') table' new.downs) ended
   pub behind : List ℕ
   pub is_header : header_at ran.ends.taken ≡ Some (header, behind)
 
 -- one or the other, and no server beside the first is touched
-pub record Replayed {X : Type 0} (state : X → Server) (left left' held held' : Option (List ℕ))
-    (servers servers' : List X) (tables' : List ConfTable) (downs' : List FaultPoint) (ended : Status) : Type 0 where
-  pub came : Early state left left' held held' servers servers' ended ⊎
-      Started state left left' held held' servers servers' tables' downs' ended
-  pub others : ChangesAt 0 servers servers'
+pub record Replayed {X : Type 0} (state : X → Server) (old new : Setting X) (ended : Status) : Type 0 where
+  pub came : Early state old new ended ⊎ Started state old new ended
+  pub others : ChangesAt 0 old.servers new.servers

@@ -1,5 +1,6 @@
 -- What a run of a log comes to: which records were stepped, and what was written.
-use Rattle.std.specs.Prelude.{◌≡◌, ◌≢◌, ℕ, List, [], ◌++◌, length, Option, None, IfSome, All, ◌⊎◌}
+use Rattle.std.specs.Prelude.{◌≡◌, ◌≢◌, ℕ, ◌+◌, ◌*◌, ◌<◌, ◌≤◌, List, [], ◌++◌, length, Option, None, IfSome, All, ◌⊎◌}
+use Rattle.std.specs.List.Sorted.{IsNonDecreasingBy}
 use Rattle.std.specs.Io.KnownBytes.{Consumes, Appends, IsAtEnd}
 use Rattle.nfs2_types.specs.declared.Limits.{Limits}
 use Rattle.server_trait.specs.Tree.{Tree, Server}
@@ -81,6 +82,22 @@ abbrev pub SeatStands : Limits → Option Tree → ConfTable → Condition → T
 SeatStands limits tree table (Live l) = StandsValid limits tree table l.array
 SeatStands limits tree table Down = Unit {0}
 
+-- Fault points in their order: each is of the start or of one of so many records, and of a replica.
+pub record ArePoints (limits : Limits) (number : ℕ) (downs : List FaultPoint) : Type 0 where
+  pub rising : IsNonDecreasingBy (λ (d : FaultPoint). d.event) downs
+  pub events : All (λ (d : FaultPoint). d.event ≤ number) downs
+  pub replicas : All (λ (d : FaultPoint). d.replica < 3 * limits.f + 1) downs
+
+-- What was written holds the lines of all records before the last one; where no record was stepped, the lines of the
+-- start may be cut.
+pub record IsCutAtLast (limits : Limits) (downs : List FaultPoint) (events : List Event) (part : List ℕ)
+    : Type 0 where
+  pub before : List Event
+  pub last : List Event
+  pub parts : events ≡ before ++ last
+  pub one : length last ≤ 1
+  pub written : (events ≡ []) ⊎ IsPrefix (text_of (end_of (service limits) downs before).lines) part
+
 -- The replica was started, and the records of the log were stepped up to the one at which the status stops the run.
 pub record Ran (limits : Limits) (log : List ℕ → Log) (old new : Snapshot) (ended : Status) : Type 0 where
   pub events : List Event
@@ -88,14 +105,17 @@ pub record Ran (limits : Limits) (log : List ℕ → Log) (old new : Snapshot) (
   -- what was written is the text of the lines of the model's run of these records, in which the server fails at the
   -- fault points
   pub printed : Printed old.held new.held ended (text_of (end_of (service limits) new.downs events).lines)
+  -- a write that fails stops the run: its record is the last that was stepped, and nothing is read behind it
+  pub cut : IsCutAtLast limits new.downs events printed.part
+  pub unread : ended ≡ status.WriteFault → (log ends.taken).events ≡ events
   -- each reply among the lines is the service's at its place, each place that the replica passed has one, and its
   -- array is that of its place
   pub right : IsRight (service limits) (end_of (service limits) new.downs events)
   pub requests : (end_of (service limits) new.downs events).state.requests ≡ requests_of events
   -- the server of a live replica holds exactly its array
   pub stands : ended ≢ status.NoMemory → SeatStands limits new.server.tree new.table right.condition
-  -- each fault point is of the replica, has its line, in order, and the server's count rose for it
-  pub numbered : All (λ (d : FaultPoint). d.replica ≡ 0) new.downs
+  -- each fault point has its line, in order, and the server's count rose for it
+  pub points : ArePoints limits (length events) new.downs
   pub met : AreMet new.downs (end_of (service limits) new.downs events).lines
   pub rose : RoseBy (length new.downs) old.server.faults new.server.faults
   pub quiet : ended ≢ status.NoMemory → new.downs ≡ [] → new.server.faults ≡ old.server.faults

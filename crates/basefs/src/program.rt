@@ -4,7 +4,7 @@ ghost use Rattle.std.specs.Prelude.{◌≡◌, ◌<◌, ◌^◌, vec_len, IfSome
 ghost use Rattle.nfs2_types.specs.Counts.{Rose};
 ghost use Rattle.basefs.specs.Log.{log_of};
 ghost use Rattle.basefs.specs.Run.{status_of, IsFault};
-ghost use Rattle.basefs.specs.Replayed.{Replayed};
+ghost use Rattle.basefs.specs.Replayed.{Replayed, setting};
 ghost use Rattle.basefs.specs.Words.{IsReplay};
 
 use crate::replay::replay;
@@ -48,13 +48,15 @@ pub fn basefs<S: Source, O: Sink, N: Link, C: Clock>(
         let log = log_of (λ s. (⟦<Srv as FileServer>⟧.state s).limits) bench.old.servers.items bytes in
         (result ≡ status_of log.stop) ⊎ IsFault result) }
 
-    // Either nothing was started and written; or the replica was started, the records of the log were
+    // Either nothing was started and written, and the bench is as it was; or the replica was started, the records of the log were
     // stepped up to the one that stops the run, each reply among its lines is the service's at its place,
     // and the server of the replica, if that is live, holds exactly the array of the service at the
     // replica's place.
     ensures run { IsReplay words.now → Replayed ⟦<Srv as FileServer>⟧.state
-        (S.left input.old) (S.left input.new) (O.written out.old) (O.written out.new)
-        bench.old.servers.items bench.new.servers.items bench.new.tables.items bench.new.downs.items result }
+        (setting (S.left input.old) (O.written out.old)
+        bench.old.servers.items bench.old.tables.items bench.old.downs.items)
+        (setting (S.left input.new) (O.written out.new)
+        bench.new.servers.items bench.new.tables.items bench.new.downs.items) result }
 
     ensures read { result ≡ Status.ReadFault → Rose (S.faults input.old) (S.faults input.new) }
     ensures write { result ≡ Status.WriteFault → Rose (O.faults out.old) (O.faults out.new) }

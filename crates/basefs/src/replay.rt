@@ -2,7 +2,7 @@
 
 ghost use Rattle.std.specs.Prelude.{◌≡◌, ◌<◌, ◌≤◌, ◌^◌, vec_len};
 ghost use Rattle.nfs2_types.specs.Counts.{Rose};
-ghost use Rattle.basefs.specs.Replayed.{Replayed};
+ghost use Rattle.basefs.specs.Replayed.{Replayed, setting};
 
 use crate::bench::{prepare, refusal};
 use crate::run::run;
@@ -23,8 +23,10 @@ pub fn replay<S: Source, O: Sink>(
 ) -> Status
     requires few { vec_len bench.old.servers < 2 ^ 32 }
     ensures replayed { Replayed ⟦<Srv as FileServer>⟧.state
-        (S.left input.old) (S.left input.new) (O.written out.old) (O.written out.new)
-        bench.old.servers.items bench.new.servers.items bench.new.tables.items bench.new.downs.items result }
+        (setting (S.left input.old) (O.written out.old)
+        bench.old.servers.items bench.old.tables.items bench.old.downs.items)
+        (setting (S.left input.new) (O.written out.new)
+        bench.new.servers.items bench.new.tables.items bench.new.downs.items) result }
     ensures read { result ≡ Status.ReadFault → Rose (S.faults input.old) (S.faults input.new) }
     ensures write { result ≡ Status.WriteFault → Rose (O.faults out.old) (O.faults out.new) }
 {

@@ -104,6 +104,14 @@ end_more S downs met events event new old =
     ∙ ap (λ f. last (last m (run_from S downs 1 events m)) (step S f event (last m (run_from S downs 1 events m)))) (faults_before (suc n) downs met before)
     ∙ ap (λ l. last l (step S (faults_in met (suc n)) event l)) (sym here)
 
+-- the fault points of a record behind these change nothing
+pub end_stays : (S : Service) (downs met : List FaultPoint) (events : List Event) → All (λ (d : FaultPoint). d.event ≡ suc (length events)) met → end_of S (downs ++ met) events ≡ end_of S downs events
+unfolding end_of run
+end_stays S downs met events new =
+    let one : 1 + length events ≡ suc (length events) = omega arith in
+    ap (λ s. last (fresh S) (s ++ run_from S (downs ++ met) 1 events (last (fresh S) s))) (start_more S downs met (length events) new)
+    ∙ ap (λ r. last (fresh S) (start S downs ++ r)) (from_more S downs met 1 (suc (length events)) events (last (fresh S) (start S downs)) one new)
+
 -- the last moment of the start
 pub end_start : (S : Service) (downs : List FaultPoint) → end_of S downs [] ≡ last (fresh S) (start S downs)
 unfolding end_of run
