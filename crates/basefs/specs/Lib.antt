@@ -1,3 +1,4 @@
+pub mod Flaking
 pub mod Going
 pub mod Log
 pub mod Replayed

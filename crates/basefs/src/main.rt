@@ -5,7 +5,7 @@ ghost use Rattle.std.specs.Prelude.{◌<◌, ◌^◌, vec_len};
 
 mod bench;
 #[cfg(test)]
-mod broken;
+mod flaky;
 mod program;
 mod replay;
 mod run;

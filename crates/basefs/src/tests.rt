@@ -6,11 +6,12 @@ mod names;
 mod session;
 mod space;
 
-ghost use Rattle.std.specs.Prelude.{◌≤◌};
+ghost use Rattle.std.specs.Prelude.{◌≤◌, ◌<◌, ◌^◌, vec_len, IfOk, ◌≡◌};
 
 use super::*;
-use crate::broken::Broken;
+use crate::flaky::{Call, Flaky};
 use outside::{MemSink, MemSource};
+use server_trait::FaultPoint;
 use std::alloc::{AllocError, Global};
 use std::test::Fail;
 
@@ -90,24 +91,36 @@ const WHOLE: Streams = Streams {
     failing_write: 0,
 };
 
-/// The status of a run over one server, and what it wrote.
+/// The status of a run over a bench, and what it wrote.
+fn run_bench(
+    alloc: Global,
+    log: Vec<u8>,
+    streams: Streams,
+    bench: &mut Bench,
+) -> Result<(Status, Vec<u8>), Fail>
+    requires few { vec_len bench.old.servers < 2 ^ 32 }
+{
+    let chunk = if streams.chunk == 0 { 1 } else { streams.chunk };
+    let mut input = MemSource::new(log, chunk, only(alloc, streams.failing_read)?);
+    let mut out = MemSink::new(alloc, only(alloc, streams.failing_write)?);
+    let mut link = MemLink::new(alloc, Vec::new(alloc), Vec::new(alloc));
+    let mut clock = MemClock::new(Vec::new(alloc));
+    let words = vec![in alloc; String::from_str(alloc, "replay")?]?;
+    let status = basefs(
+        alloc, &words, &mut input, &mut out, &mut link, &mut clock, bench,
+    );
+    Ok((status, out.written().to_vec(alloc)?))
+}
+
+/// The same over a bench of one server.
 fn run_over(
     alloc: Global,
     log: Vec<u8>,
     streams: Streams,
     server: Srv,
 ) -> Result<(Status, Vec<u8>), Fail> {
-    let chunk = if streams.chunk == 0 { 1 } else { streams.chunk };
-    let mut input = MemSource::new(log, chunk, only(alloc, streams.failing_read)?);
-    let mut out = MemSink::new(alloc, only(alloc, streams.failing_write)?);
-    let mut link = MemLink::new(alloc, Vec::new(alloc), Vec::new(alloc));
-    let mut clock = MemClock::new(Vec::new(alloc));
     let mut bench = Bench::new(alloc, vec![in alloc; server]?);
-    let words = vec![in alloc; String::from_str(alloc, "replay")?]?;
-    let status = basefs(
-        alloc, &words, &mut input, &mut out, &mut link, &mut clock, &mut bench,
-    );
-    Ok((status, out.written().to_vec(alloc)?))
+    run_bench(alloc, log, streams, &mut bench)
 }
 
 /// The same over a server of this many nodes and bytes.
@@ -338,11 +351,64 @@ fn servers_that_are_too_small(rt: HostRuntime) -> Result<(), Fail> {
     Ok(())
 }
 
+/// A bench of one server that fails at the call of this kind that comes behind so many others.
+fn flaky_bench(alloc: Global, fails: Call, behind: u32) -> Result<Bench, Fail>
+    ensures { IfOk result (λ bench. vec_len bench.servers ≡ 1) }
+{
+    let Ok(server) = PathServer::new(alloc, LIMITS) else {
+        return Err("no memory".into());
+    };
+    let server: Srv = Box::new(alloc, Flaky::new(server, fails, behind))?;
+    Ok(Bench::new(alloc, vec![in alloc; server]?))
+}
+
 #[test]
 fn a_server_that_fails_at_the_start(rt: HostRuntime) -> Result<(), Fail> {
-    let server: Srv = Box::new(rt.alloc(), Broken::new(LIMITS))?;
-    let (status, text) = run_over(rt.alloc(), null_log(rt.alloc())?, WHOLE, server)?;
+    let mut bench = flaky_bench(rt.alloc(), Call::Wipe, 0)?;
+    let (status, text) = run_bench(rt.alloc(), null_log(rt.alloc())?, WHOLE, &mut bench)?;
     assert_eq!(rt; status, Status::Done);
     assert_eq!(rt; text.as_slice(), b"down 0\nat 0 down\n".as_slice());
+    let start = FaultPoint {
+        event: 0,
+        stage: 0,
+        replica: 0,
+    };
+    assert_eq!(rt; bench.downs.as_slice(), [start].as_slice());
+    Ok(())
+}
+
+const TWO_REPLIES: &str = "\
+    reply 1 000000010000000100000000000000000000000000000000\n\
+    reply 2 000000010000000100000000000000000000000000000000\n\
+    down 0\n\
+    at 0 down\n";
+
+/// The start makes two directories. The third request of the first RunAll makes one more, at which the server fails. The
+/// requests behind it, and the second RunAll, print nothing.
+#[test]
+fn a_server_that_fails_in_mid_stream(rt: HostRuntime) -> Result<(), Fail> {
+    let log = log_of(
+        rt.alloc(),
+        &[
+            &header(16),
+            &null_request(1),
+            &null_request(2),
+            &make_dir(3),
+            &null_request(4),
+            &[RUN_ALL],
+            &null_request(5),
+            &[RUN_ALL, END],
+        ],
+    )?;
+    let mut bench = flaky_bench(rt.alloc(), Call::Mkdir, 2)?;
+    let (status, text) = run_bench(rt.alloc(), log, WHOLE, &mut bench)?;
+    assert_eq!(rt; status, Status::Done);
+    assert_eq!(rt; text.as_slice(), TWO_REPLIES.as_bytes());
+    let point = FaultPoint {
+        event: 5,
+        stage: 3,
+        replica: 0,
+    };
+    assert_eq!(rt; bench.downs.as_slice(), [point].as_slice());
     Ok(())
 }
