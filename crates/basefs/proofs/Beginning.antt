@@ -10,7 +10,7 @@ use Rattle.log_format.specs.declared.Line.{Line}
 use Rattle.log_format.specs.Lines.{text_of}
 use Rattle.log_stream.specs.Writing.{Writes}
 use Rattle.log_stream.proofs.WriteSteps.{Appends-none}
-use Rattle.outside.specs.declared.SinkErr.{SinkErr}
+use Rattle.basefs.specs.declared.run_err.RunErr.{RunErr}
 use Rattle.cluster.specs.declared.Request.{Request}
 use Rattle.cluster.specs.Served.{service}
 use Rattle.cluster.specs.Run.{end_of, AreMet}
@@ -20,7 +20,7 @@ use Rattle.basefs.specs.declared.status.Status.TheVariants as status
 use Rattle.basefs.specs.declared.turn.Turn.TheVariants as turns
 use Rattle.basefs.specs.Log.{Log, records_from}
 use Rattle.basefs.specs.Run.{Snapshot, Ran}
-use Rattle.basefs.specs.Going.{Goes, Here, Going, Turns, write_status}
+use Rattle.basefs.specs.Going.{Goes, Here, Going, Turns, run_status}
 use Rattle.basefs.specs.Turns.{snapshot}
 use Rattle.basefs.specs.Replayed.{all_records}
 use Rattle.basefs.proofs.Taking.{Goes-none}
@@ -46,7 +46,7 @@ module _ (limits : Limits) (kept : Kept) (server server' : Server) (table table'
   text_is = ap text_of s.lines_said
 
   -- the replica was started, and its lines were written
-  pub begun : (left held held' : Option (List ℕ)) (x : Unit {0}) → Writes {E = SinkErr} held held' (text_of lines) (Ok x)
+  pub begun : (left held held' : Option (List ℕ)) (x : Unit {0}) → Writes {E = RunErr} held held' (text_of lines) (Ok x)
       → Going limits (all_records limits) (snapshot left held server table downs) (snapshot left held' server' table' downs') kept 16777216 24 × (kept.events ≡ 0)
   begun left held held' x w = (
     record {
@@ -59,8 +59,8 @@ module _ (limits : Limits) (kept : Kept) (server server' : Server) (table table'
   )
 
   -- a write failed
-  pub begun_failed : (left held held' : Option (List ℕ)) (f : SinkErr) → limits.f ≡ 0 → Writes {T = Unit} held held' (text_of lines) (Err f)
-      → Ran limits (all_records limits) (snapshot left held server table downs) (snapshot left held' server' table' downs') (write_status f)
+  pub begun_failed : (left held held' : Option (List ℕ)) (f : RunErr) → limits.f ≡ 0 → Writes {T = Unit} held held' (text_of lines) (Err f)
+      → Ran limits (all_records limits) (snapshot left held server table downs) (snapshot left held' server' table' downs') (run_status f)
   begun_failed left held held' f one w =
       let none = Goes-none left (all_records limits) in
       ran_here one here (ends_at_write f none) (λ e. unread_at_write none (nothing_more 16777216 limits.k [] 24)) (printed_part [] (Appends-none held) w text_is) (cut_start limits downs' _)

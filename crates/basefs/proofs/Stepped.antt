@@ -14,7 +14,6 @@ use Rattle.log_format.specs.declared.Line.{Line}
 use Rattle.log_format.specs.Lines.{line_text, text_of}
 use Rattle.log_stream.specs.Writing.{Writes}
 use Rattle.log_stream.proofs.WriteSteps.{Appends-then}
-use Rattle.outside.specs.declared.SinkErr.{SinkErr}
 use Rattle.outside.specs.declared.SinkErr.TheVariants as sink
 use Rattle.cluster.specs.declared.Request.{Request}
 use Rattle.cluster.specs.Served.{service}
@@ -25,12 +24,14 @@ use Rattle.cluster.specs.Right.{IsRight}
 use Rattle.cluster.specs.OverBench.{Kept, IsSeat, IsState, RoseBy, Moves, Steps, HasArray}
 use Rattle.cluster.proofs.Growing.{end_more, end_stays}
 use Rattle.cluster.proofs.Calm.{end_right, end_requests}
+use Rattle.basefs.specs.declared.run_err.RunErr.{RunErr}
+use Rattle.basefs.specs.declared.run_err.RunErr.TheVariants as run
 use Rattle.basefs.specs.declared.status.Status.{Status}
 use Rattle.basefs.specs.declared.status.Status.TheVariants as status
 use Rattle.basefs.specs.Log.{Log}
 use Rattle.basefs.specs.Run.{IsPrefix, Ends, Wrote, Printed, Snapshot, SeatStands, ArePoints, IsCutAtLast, Ran}
 use Rattle.basefs.proofs.Points.{points_then}
-use Rattle.basefs.specs.Going.{Here, write_status}
+use Rattle.basefs.specs.Going.{Here, run_status}
 
 -- THE REPLICA'S ARRAY
 
@@ -217,12 +218,21 @@ wrote_all (status.NotBuilt at) text = refl
 abbrev pub printed_all : {old now : Option (List ℕ)} {text : List ℕ} (s : Status) → Appends old now text → Printed old now s text
 printed_all {text = text} s a = record { part = text; appended = a; wrote = wrote_all s text }
 
-pub wrote_part : (w : SinkErr) (part text : List ℕ) → IsPrefix part text → Wrote (write_status w) part text
-wrote_part sink.Failed part text h = h
-wrote_part sink.NoMemory part text h = h
+pub wrote_part : (w : RunErr) (part text : List ℕ) → IsPrefix part text → Wrote (run_status w) part text
+wrote_part (run.Sink sink.Failed) part text h = h
+wrote_part (run.Sink sink.NoMemory) part text h = h
+wrote_part run.NoMemory part text h = h
+
+-- the same part, whatever the error
+pub writes_err : {T R E F : Type 0} {old now : Option (List ℕ)} {text : List ℕ} {e : E} (f : F) → Writes {T = T} old now text (Err e) → Writes {T = R} old now text (Err f)
+writes_err f w = record { part = w.part; appended = w.appended; wrote = w.wrote }
+
+-- all of it, whatever an error would be
+pub writes_ok : {T E F : Type 0} {old now : Option (List ℕ)} {text : List ℕ} {x : T} → Writes {E = E} old now text (Ok x) → Writes {E = F} old now text (Ok x)
+writes_ok w = record { part = w.part; appended = w.appended; wrote = w.wrote }
 
 -- a text, and a part of what follows it
-abbrev pub printed_part : {T : Type 0} {old mid now : Option (List ℕ)} {text whole : List ℕ} {w : SinkErr} (front : List ℕ) → Appends old mid front → Writes {T = T} mid now text (Err w) → whole ≡ front ++ text → Printed old now (write_status w) whole
+abbrev pub printed_part : {T : Type 0} {old mid now : Option (List ℕ)} {text whole : List ℕ} {w : RunErr} (front : List ℕ) → Appends old mid front → Writes {T = T} mid now text (Err w) → whole ≡ front ++ text → Printed old now (run_status w) whole
 printed_part {old = old} {mid = mid} {now = now} {text = text} {whole = whole} {w = w} front a p is = record {
   part = front ++ p.part;
   appended = Appends-then old mid now front p.part a p.appended;

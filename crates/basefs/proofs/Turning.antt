@@ -11,18 +11,19 @@ use Rattle.log_format.specs.Records.{record_at, record_len}
 use Rattle.log_stream.specs.declared.ReadErr.{ReadErr}
 use Rattle.log_stream.specs.declared.ReadErr.TheVariants as read
 use Rattle.log_stream.specs.Reading.{Reads}
-use Rattle.outside.specs.declared.SinkErr.{SinkErr}
 use Rattle.outside.specs.declared.SinkErr.TheVariants as sink
 use Rattle.cluster.specs.declared.Request.{Request}
 use Rattle.cluster.specs.Run.{asked_by}
 use Rattle.cluster.specs.OverBench.{Kept}
+use Rattle.basefs.specs.declared.run_err.RunErr.{RunErr}
+use Rattle.basefs.specs.declared.run_err.RunErr.TheVariants as run
 use Rattle.basefs.specs.declared.status.Status.{Status}
 use Rattle.basefs.specs.declared.status.Status.TheVariants as status
 use Rattle.basefs.specs.declared.verdict.Verdict.TheVariants as verdict
 use Rattle.basefs.specs.declared.turn.Turn.TheVariants as turns
 use Rattle.basefs.specs.Log.{Log, stops, behind_last, judge, records_from}
 use Rattle.basefs.specs.Run.{IsPrefix, HoldsOf, Says, Snapshot, Ends, Ran}
-use Rattle.basefs.specs.Going.{Goes, Going, Turns, FinishSays, Finishes, read_status, write_status}
+use Rattle.basefs.specs.Going.{Goes, Going, Turns, FinishSays, Finishes, read_status, run_status}
 use Rattle.basefs.specs.Turns.{snapshot, Stepped, Written}
 use Rattle.basefs.proofs.Records.{records_zero, records_none}
 use Rattle.basefs.proofs.Taking.{Ends-then, Goes-then, HoldsOf-always, over_read, over_wrong, over_waits, over_memory, one_goes, last_goes, over_finish, over_most}
@@ -43,12 +44,13 @@ module _ {old left : Option (List ℕ)} {log rest : List ℕ → Log} {events : 
   front_of : (p : Goes old left log rest events) → HoldsOf log p.taken left (λ l. IsPrefix events l.events)
   front_of p = HoldsOf-always log p.taken left (λ l. IsPrefix events l.events) (λ more. ((rest more).events, ap (λ (l : Log). l.events) (p.goes more)))
 
-  pub front_says : (w : SinkErr) (p : Goes old left log rest events) → Says (write_status w) log p.taken left events
-  front_says sink.Failed p = front_of p
-  front_says sink.NoMemory p = front_of p
+  pub front_says : (w : RunErr) (p : Goes old left log rest events) → Says (run_status w) log p.taken left events
+  front_says (run.Sink sink.Failed) p = front_of p
+  front_says (run.Sink sink.NoMemory) p = front_of p
+  front_says run.NoMemory p = front_of p
 
   -- these records were stepped, and a write failed
-  abbrev pub ends_at_write : (w : SinkErr) → Goes old left log rest events → Ends old left log (write_status w) events
+  abbrev pub ends_at_write : (w : RunErr) → Goes old left log rest events → Ends old left log (run_status w) events
   ends_at_write w p = record { taken = p.taken; consumed = p.consumed; says = front_says w p }
 
   -- nothing was read behind them
@@ -102,9 +104,9 @@ module _ (k : ℕ) (left left' held : Option (List ℕ)) (server : Server) (tabl
       here = here_more g.here w.steps;
     }
 
-    wrote_part : (limits : Limits) (log : List ℕ → Log) (old : Snapshot) (n : ℕ) (f : SinkErr) (rest : List ℕ → Log) → (rest []).events ≡ [] → limits.f ≡ 0 → (g : Before limits log old (suc n))
+    wrote_part : (limits : Limits) (log : List ℕ → Log) (old : Snapshot) (n : ℕ) (f : RunErr) (rest : List ℕ → Log) → (rest []).events ≡ [] → limits.f ≡ 0 → (g : Before limits log old (suc n))
         → Goes left left' (records_from (suc n) limits.k kept.requests place) rest (e ∷ []) → Written kept kept' server server' table table' downs downs' held held' e (Err f)
-        → Ran limits log old (snapshot left' held' server' table' downs') (write_status f)
+        → Ran limits log old (snapshot left' held' server' table' downs') (run_status f)
     wrote_part limits log old n f rest none one g goes w =
         let all = Goes-then g.goes goes in
         ran_here one (here_more g.here w.steps) (ends_at_write f all) (λ e. unread_at_write all none)
@@ -119,13 +121,13 @@ module _ (k : ℕ) (left left' held : Option (List ℕ)) (server : Server) (tabl
         (subst (Ends old.left left' log status.NoMemory) (append-nil g.events) (Ends-then g.goes (over_memory (records_from n limits.k kept.requests place) r)))
         (printed_all status.NoMemory g.printed) (cut_whole limits downs g.events)))
 
-    err_is : (f : SinkErr) (x : Result Unit SinkErr) → x ≡ Err f → x ≡ Err sink.NoMemory → write_status f ≡ status.NoMemory
-    err_is f x h k = let same : f ≡ sink.NoMemory = cc in ap write_status same
+    err_is : (f : RunErr) (x : Result Unit RunErr) → x ≡ Err f → x ≡ Err run.NoMemory → run_status f ≡ status.NoMemory
+    err_is f x h k = let same : f ≡ run.NoMemory = cc in ap run_status same
 
     -- a record was stepped, or memory wanted, and its lines were not all written
-    pub turn_failed : (f : SinkErr) → server.faults ≤ server'.faults → server'.limits ≡ server.limits → (judge k kept.requests e ≡ verdict.Goes) ⊎ (judge k kept.requests e ≡ verdict.Ends)
+    pub turn_failed : (f : RunErr) → server.faults ≤ server'.faults → server'.limits ≡ server.limits → (judge k kept.requests e ≡ verdict.Goes) ⊎ (judge k kept.requests e ≡ verdict.Ends)
         → Stepped kept kept' server server' table table' downs downs' held held' e (Err f)
-        → Turns (snapshot left held server table downs) (snapshot left' held' server' table' downs') kept kept' place (turns.Over (write_status f))
+        → Turns (snapshot left held server table downs) (snapshot left' held' server' table' downs') kept kept' place (turns.Over (run_status f))
     turn_failed f later same (inl j) (inl w) limits log old n one g =
         wrote_part limits log old n f (records_from n limits.k (kept.requests ++ asked_by e) (place + record_len e)) (nothing_more n limits.k (kept.requests ++ asked_by e) (place + record_len e)) one g (one_goes n limits.k kept.requests place r (judged limits log old (suc n) verdict.Goes g j)) w
     turn_failed f later same (inr j) (inl w) limits log old n one g =
@@ -150,4 +152,4 @@ turn_read {kept = kept} {place = place} {e = e} is r limits log old n one g = st
 -- what was stepped was not wanted
 pub not_wanted : {kept kept' : Kept} {server server' : Server} {table table' : ConfTable} {downs downs' : List FaultPoint} {held held' : Option (List ℕ)} {e : Event} {x : Unit} → Stepped kept kept' server server' table table' downs downs' held held' e (Ok x) → Written kept kept' server server' table table' downs downs' held held' e (Ok x)
 not_wanted (inl w) = w
-not_wanted {x = x} (inr w) = absurd (let h : Ok x ≡ Err sink.NoMemory = w.is in cc)
+not_wanted {x = x} (inr w) = absurd (let h : Ok x ≡ Err run.NoMemory = w.is in cc)

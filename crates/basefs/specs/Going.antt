@@ -14,6 +14,8 @@ use Rattle.outside.specs.declared.SinkErr.TheVariants as sink
 use Rattle.cluster.specs.Served.{service}
 use Rattle.cluster.specs.Run.{end_of, requests_of, AreMet}
 use Rattle.cluster.specs.OverBench.{Kept, IsState, RoseBy}
+use Rattle.basefs.specs.declared.run_err.RunErr.{RunErr}
+use Rattle.basefs.specs.declared.run_err.RunErr.TheVariants as run
 use Rattle.basefs.specs.declared.status.Status.{Status}
 use Rattle.basefs.specs.declared.status.Status.TheVariants as statuses
 use Rattle.basefs.specs.declared.turn.Turn.{Turn}
@@ -73,6 +75,11 @@ read_status read.Wrong at = statuses.BadLog at
 abbrev pub write_status : SinkErr → Status
 write_status sink.Failed = statuses.WriteFault
 write_status sink.NoMemory = statuses.NoMemory
+
+-- the status of what ends a run: an error of the sink, or want of memory beside it
+abbrev pub run_status : RunErr → Status
+run_status (run.Sink e) = write_status e
+run_status run.NoMemory = statuses.NoMemory
 
 -- WHAT IS FOUND BEHIND THE LAST RECORD, which ends before this byte
 

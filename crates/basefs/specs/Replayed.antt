@@ -7,14 +7,14 @@ use Rattle.server_trait.specs.declared.ConfTable.{ConfTable}
 use Rattle.server_trait.specs.declared.FaultPoint.{FaultPoint}
 use Rattle.log_format.specs.declared.Header.{Header}
 use Rattle.log_format.specs.Records.{header_at}
-use Rattle.outside.specs.declared.SinkErr.{SinkErr}
-use Rattle.outside.specs.declared.SinkErr.TheVariants.{NoMemory}
 use Rattle.cluster.specs.OverBench.{Kept}
+use Rattle.basefs.specs.declared.run_err.RunErr.{RunErr}
+use Rattle.basefs.specs.declared.run_err.RunErr.TheVariants.{NoMemory}
 use Rattle.basefs.specs.declared.status.Status.{Status}
 use Rattle.basefs.specs.declared.status.Status.TheVariants as status
 use Rattle.basefs.specs.Log.{Log, Stop, too_few, too_small, stops, is_small, limits_of, by_bench, log_of, records_from}
 use Rattle.basefs.specs.Run.{Snapshot, Stopped, Ran, status_of}
-use Rattle.basefs.specs.Going.{Going, write_status}
+use Rattle.basefs.specs.Going.{Going, run_status}
 use Rattle.basefs.specs.Turns.{snapshot}
 
 -- THE START OF A RUN
@@ -35,9 +35,9 @@ pub record Unstarted (old new : Snapshot) : Type 0 where
 abbrev pub all_records : Limits → List ℕ → Log
 all_records limits = records_from 16777216 limits.k [] 24
 
-abbrev pub Begun : Limits → Snapshot → Snapshot → Result Kept SinkErr → Type 0
+abbrev pub Begun : Limits → Snapshot → Snapshot → Result Kept RunErr → Type 0
 Begun limits old new (Ok kept) = Going limits (all_records limits) old new kept 16777216 24 × (kept.events ≡ 0)
-Begun limits old new (Err e) = Ran limits (all_records limits) old new (write_status e) ⊎
+Begun limits old new (Err e) = Ran limits (all_records limits) old new (run_status e) ⊎
     ((e ≡ NoMemory) × Unstarted old new)
 
 abbrev pub RunsAll : Limits → Snapshot → Snapshot → Status → Type 0

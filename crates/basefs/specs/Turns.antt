@@ -7,9 +7,9 @@ use Rattle.log_format.specs.declared.Event.{Event}
 use Rattle.log_format.specs.declared.Line.{Line}
 use Rattle.log_format.specs.Lines.{text_of}
 use Rattle.log_stream.specs.Writing.{Writes}
-use Rattle.outside.specs.declared.SinkErr.{SinkErr}
-use Rattle.outside.specs.declared.SinkErr.TheVariants.{NoMemory}
 use Rattle.cluster.specs.OverBench.{Kept, Steps}
+use Rattle.basefs.specs.declared.run_err.RunErr.{RunErr}
+use Rattle.basefs.specs.declared.run_err.RunErr.TheVariants.{NoMemory}
 use Rattle.basefs.specs.declared.turn.Turn.{Turn}
 use Rattle.basefs.specs.declared.turn.Turn.TheVariants.{Goes, Over}
 use Rattle.basefs.specs.Run.{Snapshot}
@@ -21,20 +21,20 @@ snapshot left held server table downs =
 -- the cluster stepped, and its lines were written, or some of them
 pub record Written (old new : Kept) (server server' : Server) (table table' : ConfTable)
     (downs downs' : List FaultPoint)
-    (held held' : Option (List ℕ)) (event : Event) (result : Result Unit SinkErr) : Type 0 where
+    (held held' : Option (List ℕ)) (event : Event) (result : Result Unit RunErr) : Type 0 where
   pub lines : List Line
   pub steps : Steps old new server server' table table' downs downs' event lines
   pub writes : Writes held held' (text_of lines) result
 
 -- memory wanted before the cluster had stepped
 pub record Wanted (server server' : Server) (downs downs' : List FaultPoint) (held held' : Option (List ℕ))
-    (result : Result Unit SinkErr) : Type 0 where
+    (result : Result Unit RunErr) : Type 0 where
   pub is : result ≡ Err NoMemory
   pub downs_stay : downs' ≡ downs
   pub held_stay : held' ≡ held
 
 abbrev pub Stepped : Kept → Kept → Server → Server → ConfTable → ConfTable → List FaultPoint → List FaultPoint →
-    Option (List ℕ) → Option (List ℕ) → Event → Result Unit SinkErr → Type 0
+    Option (List ℕ) → Option (List ℕ) → Event → Result Unit RunErr → Type 0
 Stepped old new server server' table table' downs downs' held held' event result =
     Written old new server server' table table' downs downs' held held' event result ⊎
     Wanted server server' downs downs' held held' result

@@ -9,12 +9,14 @@ mod flaky;
 mod program;
 mod replay;
 mod run;
+mod run_err;
 mod status;
 #[cfg(test)]
 mod tests;
 mod turn;
 mod verdict;
 
+use nfs2_types::NoMemory;
 use outside::{MemClock, MemLink};
 use outside_real::{StdSink, StdSource};
 use path_server::PathServer;
@@ -48,44 +50,35 @@ fn words<R: Env + AllocGlobal>(rt: &R) -> Result<Vec<String>, Status> {
 }
 
 /// Runs the program over the standard streams and a bench.
-fn run_over(rt: &HostRuntime, words: &[String], bench: &mut Bench) -> Status
+fn run_over(rt: &HostRuntime, words: &[String], bench: &mut Bench) -> Result<Status, NoMemory>
     requires { vec_len bench.old.servers < 2 ^ 32 }
 {
     let alloc = rt.alloc();
-    let Ok(mut input) = StdSource::new(alloc, rt.reader()) else {
-        return Status::NoMemory;
-    };
+    let mut input = StdSource::new(alloc, rt.reader())?;
     let mut out = StdSink::new(io::writer(rt));
     let mut link = MemLink::new(alloc, Vec::new(alloc), Vec::new(alloc));
     let mut clock = MemClock::new(Vec::new(alloc));
-    basefs(
+    Ok(basefs(
         alloc, words, &mut input, &mut out, &mut link, &mut clock, bench,
-    )
+    ))
 }
 
-/// Makes the bench, and runs the program over it.
-fn run_all(rt: &HostRuntime) -> Status {
-    let words = match words(rt) {
-        Ok(words) => words,
-        Err(status) => return status,
-    };
+/// Makes the bench, and runs the program over it. The status is an error where the program was not run.
+fn start(rt: &HostRuntime) -> Result<Status, Status> {
+    let words = words(rt)?;
     let mut servers: Vec<Srv> = Vec::new(rt.alloc());
     for _server in 0..SERVERS {
-        let Ok(server) = PathServer::new(rt.alloc(), LIMITS) else {
-            return Status::NoMemory;
-        };
-        let Ok(server) = Box::new(rt.alloc(), server) else {
-            return Status::NoMemory;
-        };
-        if servers.push(server).is_err() {
-            return Status::NoMemory;
-        }
+        let server = PathServer::new(rt.alloc(), LIMITS)?;
+        servers.push(Box::new(rt.alloc(), server)?)?;
     }
-    run_over(rt, &words, &mut Bench::new(rt.alloc(), servers))
+    let status = run_over(rt, &words, &mut Bench::new(rt.alloc(), servers))?;
+    Ok(status)
 }
 
 fn main(rt: HostRuntime) -> ExitCode {
-    let status = run_all(&rt);
+    let status = match start(&rt) {
+        Ok(status) | Err(status) => status,
+    };
     if status != Status::Done {
         let _ = eprintln!(rt; "{status}");
     }

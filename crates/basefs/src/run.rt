@@ -1,14 +1,14 @@
 //! A run over one replica, from behind the header of a log.
 
-ghost use Rattle.std.specs.Prelude.{◌≡◌, ◌<◌, ◌≤◌, [], IsErrOf};
+ghost use Rattle.std.specs.Prelude.{◌≡◌, ◌<◌, ◌≤◌, []};
 ghost use Rattle.nfs2_types.specs.Counts.{Rose};
 ghost use Rattle.conf_map.specs.Stands.{AreWithin, HasRoom};
 ghost use Rattle.basefs.specs.Turns.{snapshot};
 ghost use Rattle.basefs.specs.Replayed.{Begun, RunsAll};
-ghost use Rattle.outside.specs.declared.SinkErr.TheVariants.{Failed};
 
+use crate::run_err::RunErr;
 use crate::status::Status;
-use crate::turn::{Turn, take_turn, write_status};
+use crate::turn::{Turn, run_status, take_turn};
 use cluster::Cluster;
 use log_stream::write_lines;
 use nfs2_types::Limits;
@@ -31,7 +31,7 @@ fn begin<S: Source, O: Sink>(
     server: &mut Srv,
     table: &mut ConfTable,
     downs: &mut Vec<FaultPoint>,
-) -> Result<Cluster, SinkErr>
+) -> Result<Cluster, RunErr>
     requires one { limits.now.f ≡ 0 }
     requires within { AreWithin limits.now }
     requires room { HasRoom limits.now (state server.old).limits }
@@ -41,11 +41,9 @@ fn begin<S: Source, O: Sink>(
         (snapshot (S.left input.new) (O.written out.new) (state server.new) table.new downs.new.items) result }
     ensures input { input.new ≡ input.old }
     ensures writes { O.faults out.old ≤ O.faults out.new }
-    ensures write { IsErrOf result Failed → Rose (O.faults out.old) (O.faults out.new) }
+    ensures write { result ≡ Err (RunErr.Sink SinkErr.Failed) → Rose (O.faults out.old) (O.faults out.new) }
 {
-    let Ok((cluster, lines)) = Cluster::start(alloc, server, table, downs, limits) else {
-        return Err(SinkErr::NoMemory);
-    };
+    let (cluster, lines) = Cluster::start(alloc, server, table, downs, limits)?;
     write_lines(alloc, out, &lines)?;
     Ok(cluster)
 }
@@ -75,7 +73,7 @@ pub fn run<S: Source, O: Sink>(
 {
     let mut cluster = match begin(alloc, limits, input, out, server, table, downs) {
         Ok(cluster) => cluster,
-        Err(error) => return write_status(error),
+        Err(error) => return run_status(error),
     };
     let mut place = FIRST_RECORD;
     for _turn in 0..MOST_RECORDS {

@@ -2,7 +2,10 @@
 
 ghost use Rattle.std.specs.Prelude.{◌≡◌, Some};
 ghost use Rattle.basefs.specs.StatusText.{exit_number, status_text};
+ghost use Rattle.basefs.specs.declared.status.Status.TheVariants as statuses;
 
+use nfs2_types::NoMemory;
+use std::alloc::AllocFailed;
 use std::fmt;
 
 /// How a run ended. Each has an exit number and a text.
@@ -28,6 +31,22 @@ pub enum Status {
     ServerTooSmall { server: u32 },
     /// The header or record that begins at this byte is in the grammar and not built yet.
     NotBuilt { at: u64 },
+}
+
+impl From<NoMemory> for Status {
+    ghost from_gives = { λ _ s. s ≡ statuses.NoMemory };
+
+    fn from(_e: NoMemory) -> Status {
+        Status::NoMemory
+    }
+}
+
+impl<T: Drop> From<AllocFailed<T>> for Status {
+    ghost from_gives = { λ _ s. s ≡ statuses.NoMemory };
+
+    fn from(_e: AllocFailed<T>) -> Status {
+        Status::NoMemory
+    }
 }
 
 impl Status {

@@ -5,12 +5,13 @@ ghost use Rattle.nfs2_types.specs.Times.{is_time};
 ghost use Rattle.nfs2_types.specs.Counts.{Rose};
 ghost use Rattle.conf_map.specs.Stands.{HasRoom};
 ghost use Rattle.log_format.specs.Lines.{text_of};
-ghost use Rattle.log_stream.specs.Writing.{Writes, WriteHasCause};
+ghost use Rattle.log_stream.specs.Writing.{Writes};
 ghost use Rattle.cluster.specs.OverBench.{HasArray, CanStep};
 ghost use Rattle.basefs.specs.Turns.{Stepped, IsNear, snapshot};
 ghost use Rattle.basefs.specs.Log.{falls as falls_behind, judge_request as judge_request_of, judge as judge_of};
-ghost use Rattle.basefs.specs.Going.{read_status as status_of_read, write_status as status_of_write, Finishes, Turns};
+ghost use Rattle.basefs.specs.Going.{read_status as status_of_read, run_status as status_of_run, Finishes, Turns};
 
+use crate::run_err::RunErr;
 use crate::status::Status;
 use crate::verdict::Verdict;
 use cluster::Cluster;
@@ -86,13 +87,14 @@ pub fn read_status(error: ReadErr, at: u64) -> Status
     }
 }
 
-/// The status of an error of the sink.
-pub fn write_status(error: SinkErr) -> Status
-    ensures { result ≡ status_of_write error }
+/// The status of what ends a run.
+pub fn run_status(error: RunErr) -> Status
+    ensures status { result ≡ status_of_run error }
+    ensures write { result ≡ Status.WriteFault → error ≡ RunErr.Sink SinkErr.Failed }
 {
     match error {
-        SinkErr::Failed => Status::WriteFault,
-        SinkErr::NoMemory => Status::NoMemory,
+        RunErr::Sink(SinkErr::Failed) => Status::WriteFault,
+        RunErr::Sink(SinkErr::NoMemory) | RunErr::NoMemory => Status::NoMemory,
     }
 }
 
@@ -110,7 +112,7 @@ fn finish<S: Source>(input: &mut S, place: u64) -> Status
     }
 }
 
-/// Steps a record, and writes its lines. Memory that wants is a want of the sink's too.
+/// Steps a record, and writes its lines.
 fn step<O: Sink>(
     alloc: Global,
     cluster: &mut Cluster,
@@ -119,21 +121,21 @@ fn step<O: Sink>(
     server: &mut Srv,
     table: &mut ConfTable,
     downs: &mut Vec<FaultPoint>,
-) -> Result<(), SinkErr>
+) -> Result<(), RunErr>
     requires array { HasArray cluster.old.limits (state server.old).tree table.old cluster.old.place }
     requires room { HasRoom cluster.old.limits (state server.old).limits }
     requires event { CanStep cluster.old.requests event }
     requires few { cluster.old.events < 2 ^ 32 }
     ensures stepped { Stepped cluster.old cluster.new (state server.old) (state server.new) table.old table.new
         downs.old.items downs.new.items (O.written out.old) (O.written out.new) event result }
-    ensures cause { WriteHasCause (O.faults out.old) (O.faults out.new) result }
+    ensures writes { O.faults out.old ≤ O.faults out.new }
+    ensures write { result ≡ Err (RunErr.Sink SinkErr.Failed) → Rose (O.faults out.old) (O.faults out.new) }
     ensures limits { (state server.new).limits ≡ (state server.old).limits }
     ensures later { (state server.old).faults ≤ (state server.new).faults }
 {
-    match cluster.step(alloc, server, table, downs, event) {
-        Ok(lines) => write_lines(alloc, out, &lines),
-        Err(_) => Err(SinkErr::NoMemory),
-    }
+    let lines = cluster.step(alloc, server, table, downs, event)?;
+    write_lines(alloc, out, &lines)?;
+    Ok(())
 }
 
 /// Takes a turn: reads the record that begins at this byte, steps it and writes its lines.
@@ -173,11 +175,11 @@ pub fn take_turn<S: Source, O: Sink>(
         Verdict::Waits => Turn::Over(Status::NotBuilt { at: place }),
         Verdict::Goes => match step(alloc, cluster, event, out, server, table, downs) {
             Ok(()) => Turn::Goes { next },
-            Err(error) => Turn::Over(write_status(error)),
+            Err(error) => Turn::Over(run_status(error)),
         },
         Verdict::Ends => match step(alloc, cluster, event, out, server, table, downs) {
             Ok(()) => Turn::Over(finish(input, next)),
-            Err(error) => Turn::Over(write_status(error)),
+            Err(error) => Turn::Over(run_status(error)),
         },
     }
 }

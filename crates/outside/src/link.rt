@@ -8,12 +8,34 @@ ghost use Rattle.outside.specs.declared.datagram.Datagram.{Datagram};
 
 use crate::datagram::{DATAGRAM_MAX, Datagram, Peer};
 use crate::source::Failed;
+use nfs2_types::NoMemory;
+use std::alloc::AllocFailed;
 
 /// Why a link carried nothing.
 #[derive(Clone, Copy, Debug, PartialEq, Eq)]
 pub enum LinkErr {
     Failed,
     NoMemory,
+}
+
+impl From<NoMemory> for LinkErr {
+    ghost use Rattle.outside.specs.declared.link.LinkErr.TheVariants as errors;
+
+    ghost from_gives = { λ _ e. e ≡ errors.NoMemory };
+
+    fn from(_e: NoMemory) -> LinkErr {
+        LinkErr::NoMemory
+    }
+}
+
+impl<T: Drop> From<AllocFailed<T>> for LinkErr {
+    ghost use Rattle.outside.specs.declared.link.LinkErr.TheVariants as errors;
+
+    ghost from_gives = { λ _ e. e ≡ errors.NoMemory };
+
+    fn from(_e: AllocFailed<T>) -> LinkErr {
+        LinkErr::NoMemory
+    }
 }
 
 /// Where datagrams come from and go to.

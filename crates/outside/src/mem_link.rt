@@ -78,12 +78,8 @@ impl Link for MemLink {
         if self.schedule.fails_now() {
             return Err(LinkErr::Failed);
         }
-        let Ok(bytes) = Blob::from_slice(*self.sent.allocator(), piece) else {
-            return Err(LinkErr::NoMemory);
-        };
-        match self.sent.push(Datagram { from: to, bytes }) {
-            Ok(()) => Ok(()),
-            Err(_) => Err(LinkErr::NoMemory),
-        }
+        let bytes = Blob::from_slice(*self.sent.allocator(), piece)?;
+        self.sent.push(Datagram { from: to, bytes })?;
+        Ok(())
     }
 }

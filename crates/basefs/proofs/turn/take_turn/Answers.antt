@@ -19,10 +19,10 @@ pub returns-in-Ok-step-clause-turn : goal.returns-in-Ok-step-clause-turn
 returns-in-Ok-step-clause-turn g c = rw c.record_len.ensures (turn_goes c.args.k _ _ _ _ _ _ c.args.cluster.now c.args.place c.in-Ok.event c.requires.interval.1 c.in-Ok.ensures.bytes _ _ _ _ _ _ (sym c.in-Goes.ensures) (not_wanted c.in-Ok-step.ensures.stepped))
 
 pub returns-in-Err-step-clause-turn : goal.returns-in-Err-step-clause-turn
-returns-in-Err-step-clause-turn g c = rw c.write_status.ensures (turn_failed c.args.k _ _ _ _ _ _ c.args.cluster.now c.args.place c.in-Ok.event c.requires.interval.1 c.in-Ok.ensures.bytes _ _ _ _ _ _ c.step.ensures.later c.step.ensures.limits (inl (sym c.in-Goes.ensures)) c.in-Err-step.ensures.stepped)
+returns-in-Err-step-clause-turn g c = rw c.run_status.ensures.status (turn_failed c.args.k _ _ _ _ _ _ c.args.cluster.now c.args.place c.in-Ok.event c.requires.interval.1 c.in-Ok.ensures.bytes _ _ _ _ _ _ c.step.ensures.later c.step.ensures.limits (inl (sym c.in-Goes.ensures)) c.in-Err-step.ensures.stepped)
 
 pub returns-in-Ok-step-2-clause-turn : goal.returns-in-Ok-step-2-clause-turn
 returns-in-Ok-step-2-clause-turn g c = turn_ends c.args.k _ _ _ _ _ _ c.args.cluster.now c.args.place c.in-Ok.event c.requires.interval.1 c.in-Ok.ensures.bytes _ _ _ _ _ _ _ _ (sym c.in-Ends.ensures) (not_wanted c.in-Ok-step-2.ensures.stepped) (rw c.record_len.ensures at c.finish.ensures.bytes)
 
 pub returns-in-Err-step-2-clause-turn : goal.returns-in-Err-step-2-clause-turn
-returns-in-Err-step-2-clause-turn g c = rw c.write_status-in-Err-step-2.ensures (turn_failed c.args.k _ _ _ _ _ _ c.args.cluster.now c.args.place c.in-Ok.event c.requires.interval.1 c.in-Ok.ensures.bytes _ _ _ _ _ _ c.step-in-Ends.ensures.later c.step-in-Ends.ensures.limits (inr (sym c.in-Ends.ensures)) c.in-Err-step-2.ensures.stepped)
+returns-in-Err-step-2-clause-turn g c = rw c.run_status-in-Err-step-2.ensures.status (turn_failed c.args.k _ _ _ _ _ _ c.args.cluster.now c.args.place c.in-Ok.event c.requires.interval.1 c.in-Ok.ensures.bytes _ _ _ _ _ _ c.step-in-Ends.ensures.later c.step-in-Ends.ensures.limits (inr (sym c.in-Ends.ensures)) c.in-Err-step-2.ensures.stepped)
