@@ -139,7 +139,7 @@ down_counted T before now e is h = subst (λ (e : WrapErr). Counted {T = T} befo
 
 pub later_counted : (T : Type 0) (before now : ℕ) (e : WrapErr) → Counted {T = T} before now (Err e) → before ≤ now
 later_counted T before now wrap.Down h = h.0
-later_counted T before now wrap.NoMemory h = h
+later_counted T before now wrap.NoMemory h = omega (arith, h)
 
 -- a decision is no failure
 pub failed_decision : (p : ℕ) (w : Word) → flat_map failed_of (decision_line p w ∷ []) ≡ []
