@@ -5,7 +5,7 @@ ghost use Rattle.nfs2_types.specs.Counts.{Rose};
 ghost use Rattle.basefs.specs.Replayed.{Replayed, setting};
 
 use crate::bench::{prepare, refusal};
-use crate::run::run;
+use crate::run::run_log;
 use crate::status::Status;
 use crate::turn::read_status;
 use log_stream::read_header;
@@ -49,7 +49,7 @@ pub fn replay<S: Source, O: Sink>(
         t: header.t,
         f: header.f,
     };
-    run(
+    run_log(
         alloc,
         &limits,
         input,

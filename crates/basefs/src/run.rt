@@ -49,7 +49,7 @@ fn begin<S: Source, O: Sink>(
 }
 
 /// Runs the records of a log over a replica with this server. The replica's array is kept in server and table alone.
-pub fn run<S: Source, O: Sink>(
+pub fn run_log<S: Source, O: Sink>(
     alloc: Global,
     limits: &Limits,
     input: &mut S,

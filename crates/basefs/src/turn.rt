@@ -113,7 +113,7 @@ fn finish<S: Source>(input: &mut S, place: u64) -> Status
 }
 
 /// Steps a record, and writes its lines.
-fn step<O: Sink>(
+fn step_and_write<O: Sink>(
     alloc: Global,
     cluster: &mut Cluster,
     event: Event,
@@ -173,11 +173,11 @@ pub fn take_turn<S: Source, O: Sink>(
     match judge(k, cluster, &event) {
         Verdict::Wrong => Turn::Over(Status::BadLog { at: place }),
         Verdict::Waits => Turn::Over(Status::NotBuilt { at: place }),
-        Verdict::Goes => match step(alloc, cluster, event, out, server, table, downs) {
+        Verdict::Goes => match step_and_write(alloc, cluster, event, out, server, table, downs) {
             Ok(()) => Turn::Goes { next },
             Err(error) => Turn::Over(run_status(error)),
         },
-        Verdict::Ends => match step(alloc, cluster, event, out, server, table, downs) {
+        Verdict::Ends => match step_and_write(alloc, cluster, event, out, server, table, downs) {
             Ok(()) => Turn::Over(finish(input, next)),
             Err(error) => Turn::Over(run_status(error)),
         },

@@ -3,7 +3,7 @@ use Rattle.std.specs.Prelude.{◌≡◌, ◌≤◌, ℕ, Option, Some, None, Res
 use Rattle.nfs2_types.specs.Counts.{Rose}
 use Rattle.nfs2_types.specs.declared.NoMemory.{NoMemory}
 use Rattle.server_trait.specs.Tree.{Server}
-use Rattle.cluster.specs.declared.run_all.Ran.{Ran}
+use Rattle.cluster.specs.declared.catch_up.Ran.{Ran}
 
 -- the count rose where the server failed, and is the same where it did not
 abbrev pub CountedBy : ℕ → ℕ → Option ℕ → Type 0

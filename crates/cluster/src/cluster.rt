@@ -5,8 +5,8 @@ ghost use Rattle.nfs2_types.specs.Times.{is_time};
 ghost use Rattle.conf_map.specs.Stands.{AreWithin, HasRoom};
 ghost use Rattle.cluster.specs.OverBench.{Starts};
 
+use crate::catch_up::{Ran, catch_up, push_line};
 use crate::request::Request;
-use crate::run_all::{Ran, push_line, run_all};
 use conf_map::fresh;
 use log_format::{Event, Line};
 use nfs2_types::{Blob, Limits, NoMemory, Time};
@@ -206,7 +206,7 @@ impl Cluster {
             self.events += 1;
             return Ok(Vec::new(alloc));
         };
-        let Ran { lines, failed } = run_all(
+        let Ran { lines, failed } = catch_up(
             alloc,
             server,
             table,

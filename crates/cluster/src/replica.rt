@@ -15,7 +15,7 @@ use server_trait::{ConfTable, Srv, WrapErr};
 use std::alloc::Global;
 
 /// Answers a request over a server and its table, from whatever array they stand for.
-pub fn run(
+pub fn answer_request(
     alloc: Global,
     server: &mut Srv,
     table: &mut ConfTable,

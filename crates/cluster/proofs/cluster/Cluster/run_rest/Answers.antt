@@ -15,7 +15,7 @@ returns-in_default-clause-steps g c =
 pub returns-clause-steps : goal.returns-clause-steps
 returns-clause-steps g c =
     let is = c.self.view_is in
-    run_steps_as c.args.self.now c.settle.new.self c.self.inside.limits c.deref.result.now c.in-Some.start _ _ c.args.table.now c.run_all.new.table c.args.downs.now.items c.settle.new.downs.items
+    run_steps_as c.args.self.now c.settle.new.self c.self.inside.limits c.deref.result.now c.in-Some.start _ _ c.args.table.now c.catch_up.new.table c.args.downs.now.items c.settle.new.downs.items
     c.in_ok-lines.field-0.failed c.in_ok-lines.field-0.lines.items
     (ap (λ (k : Kept). k.limits) is) (c.deref.ensures.value ∙ ap (λ (k : Kept). k.requests) is)
     (ap (λ (k : Kept). k.limits.f) (sym is) ∙ c.self.invariant.one) (ap (λ (k : Kept). k.place) (sym is) ∙ c.in-Some.is)

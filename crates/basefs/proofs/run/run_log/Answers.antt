@@ -1,7 +1,7 @@
 use Rattle.std.proofs.Common.{inl, refl, arith}
 use Rattle.basefs.proofs.Stepped.{has_array}
 use Rattle.basefs.proofs.Beginning.{turned, turned_over, turned_most, has_room}
-use Rattle.basefs.proofs.run.run.Goals as goal
+use Rattle.basefs.proofs.run.run_log.Goals as goal
 
 pub loop-turn-init : goal.loop-turn-init
 loop-turn-init g c = record {

@@ -1,5 +1,5 @@
 use Rattle.cluster.specs.RunAll.{SoFar}
-use Rattle.cluster.proofs.run_all.run_all.Given as goal
+use Rattle.cluster.proofs.catch_up.catch_up.Given as goal
 
 abbrev pub invariant-loop-request : goal.invariant-loop-request
 invariant-loop-request g l =

@@ -7,7 +7,7 @@ use Rattle.cluster.specs.Run.{failed_of}
 use Rattle.nfs2_types.specs.declared.Word.{Word}
 use Rattle.conf_map.specs.Stands.{HasRoom}
 use Rattle.cluster.proofs.RunsAll.{ran_none, ran_array, ran_more, ran_whole, ran_failed, request_at, size_of_rest, if_err, failed_decision, down_counted, later_counted}
-use Rattle.cluster.proofs.run_all.run_all.Goals as goal
+use Rattle.cluster.proofs.catch_up.catch_up.Goals as goal
 
 pub loop-request-init : goal.loop-request-init
 loop-request-init g c = record {
@@ -21,11 +21,11 @@ loop-request-init g c = record {
 pub overflow_add-place : goal.overflow_add-place
 overflow_add-place g c = omega (arith, size_of_rest c.args.requests.now c.args.start)
 
-pub run-requires-clause-stands : goal.run-requires-clause-stands
-run-requires-clause-stands g c = ran_array c.args.limits.now c.requires.one c.args.requests.now c.args.start _ c.args.table.now _ _ c.loop-request.request-index _ c.requires.stands c.loop-request.invariant.ran
+pub answer_request-requires-clause-stands : goal.answer_request-requires-clause-stands
+answer_request-requires-clause-stands g c = ran_array c.args.limits.now c.requires.one c.args.requests.now c.args.start _ c.args.table.now _ _ c.loop-request.request-index _ c.requires.stands c.loop-request.invariant.ran
 
-pub run-requires-clause-room : goal.run-requires-clause-room
-run-requires-clause-room g c = subst (λ most. HasRoom c.args.limits.now most) (sym c.loop-request.invariant.limits_stay) c.requires.room
+pub answer_request-requires-clause-room : goal.answer_request-requires-clause-room
+answer_request-requires-clause-room g c = subst (λ most. HasRoom c.args.limits.now most) (sym c.loop-request.invariant.limits_stay) c.requires.room
 
 pub returns-in_err-push_line-in-Ok-clause-watched : goal.returns-in_err-push_line-in-Ok-clause-watched
 returns-in_err-push_line-in-Ok-clause-watched g c = record {
@@ -48,7 +48,7 @@ pub returns-in-Err-Down-clause-ran : goal.returns-in-Err-Down-clause-ran
 returns-in-Err-Down-clause-ran g c =
     let is = request_at c.args.requests.now c.args.start c.loop-request.request-index c.request-item.result c.requires.place c.loop-request-test.true c.request-item.is in
     let round : c.loop-request.request-index + 1 ≡ c.from.result = omega (arith, c.from.ensures, c.loop-request.invariant.place_is) in
-    let ran = ran_failed c.args.limits.now c.requires.one c.args.requests.now c.args.start _ c.args.table.now _ _ c.loop-request.table c.run.new.table c.loop-request.request-index c.loop-request.lines.items c.request-item.result is c.loop-request.invariant.ran in
+    let ran = ran_failed c.args.limits.now c.requires.one c.args.requests.now c.args.start _ c.args.table.now _ _ c.loop-request.table c.answer_request.new.table c.loop-request.request-index c.loop-request.lines.items c.request-item.result is c.loop-request.invariant.ran in
     rw (c.in_ok-push_line-in-Err-Down.ensures, ← round) ran
 
 pub returns-in-Err-Down-clause-watched : goal.returns-in-Err-Down-clause-watched
@@ -68,7 +68,7 @@ returns-in-Err-NoMemory-clause-watched g c = record {
 pub loop-request-preserved : goal.loop-request-preserved
 loop-request-preserved g c =
     let is = request_at c.args.requests.now c.args.start c.loop-request.request-index c.request-item.result c.requires.place c.loop-request-test.true c.request-item.is in
-    let ran = ran_more c.args.limits.now c.requires.one c.args.requests.now c.args.start _ c.args.table.now _ _ c.loop-request.table c.run.new.table c.loop-request.request-index c.loop-request.lines.items c.request-item.result c.in-Ok.word is c.in-Ok.ensures.answered c.loop-request.invariant.ran in
+    let ran = ran_more c.args.limits.now c.requires.one c.args.requests.now c.args.start _ c.args.table.now _ _ c.loop-request.table c.answer_request.new.table c.loop-request.request-index c.loop-request.lines.items c.request-item.result c.in-Ok.word is c.in-Ok.ensures.answered c.loop-request.invariant.ran in
     record {
       place_is = omega (arith, c.loop-request.invariant.place_is);
       ran = rw (c.in_ok-push_line-in-Ok.ensures, c.decision_line.ensures, c.loop-request.invariant.place_is) ran;

@@ -1,7 +1,7 @@
 use Rattle.std.proofs.Common.{inl}
 use Rattle.std.proofs.lemmas.Result.{err_from_is_err_and}
 use Rattle.basefs.proofs.Stepped.{writes_err}
-use Rattle.basefs.proofs.turn.step.Goals as goal
+use Rattle.basefs.proofs.turn.step_and_write.Goals as goal
 
 pub returns-in_err-write_lines-clause-stepped : goal.returns-in_err-write_lines-clause-stepped
 returns-in_err-write_lines-clause-stepped g c =

@@ -2,7 +2,7 @@ use Rattle.std.proofs.Common.{◌≡◌, ◌≤◌, ◌+◌, ◌-◌, ◌*◌}
 use Rattle.basefs.specs.Turns.{snapshot}
 use Rattle.basefs.specs.Going.{Going}
 use Rattle.basefs.specs.Replayed.{all_records}
-use Rattle.basefs.proofs.run.run.Given as goal
+use Rattle.basefs.proofs.run.run_log.Given as goal
 
 abbrev pub invariant-loop-turn : goal.invariant-loop-turn
 invariant-loop-turn g l = record {

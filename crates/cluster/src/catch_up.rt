@@ -10,7 +10,7 @@ ghost use Rattle.cluster.specs.Run.{failed_of};
 ghost use Rattle.cluster.specs.RunAll.{RanAll, downs_of};
 ghost use Rattle.cluster.specs.Watching.{WatchedRan};
 
-use crate::replica::run;
+use crate::replica::answer_request;
 use crate::request::Request;
 use log_format::Line;
 use nfs2_types::{Limits, NoMemory, Word};
@@ -45,7 +45,7 @@ pub fn push_line(lines: &mut Vec<Line>, line: Line) -> Result<(), NoMemory>
 }
 
 /// Runs the requests from the place of the replica to the end, or until its server fails.
-pub fn run_all(
+pub fn catch_up(
     alloc: Global,
     server: &mut Srv,
     table: &mut ConfTable,
@@ -69,7 +69,7 @@ pub fn run_all(
     let mut place = start;
     for request in &requests[start as usize..] {
         place += 1;
-        match run(alloc, server, table, limits, request) {
+        match answer_request(alloc, server, table, limits, request) {
             Ok(word) => push_line(&mut lines, decision_line(place, word))?,
             Err(WrapErr::Down) => {
                 push_line(&mut lines, Line::Down { r: 0 })?;
