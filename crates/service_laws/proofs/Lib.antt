@@ -1,0 +1,6 @@
+pub mod Orderly
+pub mod Wordy
+pub mod Bounds
+pub mod Reading
+pub mod Spelled
+pub mod Served
