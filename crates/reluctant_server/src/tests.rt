@@ -1,83 +1,86 @@
-//! The service over a path server, and over one that does no more than it must: each call gives what the plain machine
-//! gives, with each refusal and each effect of RFC 1094, 2.2.
+//! That the server does no more than it must.
 
-mod dirs;
-mod files;
-mod moves;
-mod names;
-mod service;
-mod words;
+ghost use Rattle.std.specs.Prelude.{◌≡◌, ◌≤◌, ◌+◌, true, IfOk, OnOk, length};
+ghost use Rattle.nfs2_types.specs.Names.{is_name};
+ghost use Rattle.server_trait.specs.Step.{HasTree};
 
 use crate::Reluctant;
+use nfs2_types::Handle;
 use path_server::PathServer;
-use server_trait::{ServerLimits, Srv};
-use service::Service;
+use server_trait::{FileServer, Listed, ServerLimits, Srv, SrvErr};
 use std::alloc::Global;
 use std::test::Fail;
 
-const LIMITS: ServerLimits = ServerLimits {
-    nodes: 19,
-    bytes: 1_114_112,
-};
-
-/// The tables of directories, over a server.
-fn directories(alloc: Global, server: Srv) -> Result<(), Fail> {
-    let mut service = Service::new(alloc, server)?;
-    dirs::looked_at(alloc, &mut service)?;
-    dirs::made(alloc, &mut service)?;
-    dirs::listed(alloc, &mut service)?;
-    dirs::filled(alloc, &mut service)
+/// A server with an empty root.
+fn reluctant(alloc: Global) -> Result<Srv, Fail>
+    ensures { IfOk result (λ s. HasTree (⟦<Srv as FileServer>⟧.state s)) }
+{
+    let limits = ServerLimits {
+        nodes: 8,
+        bytes: 65_536,
+    };
+    let Ok(inner) = PathServer::new(alloc, limits) else {
+        return Err("no memory".into());
+    };
+    let mut server: Srv = Box::new(alloc, Reluctant::new(inner))?;
+    match server.wipe() {
+        Ok(()) => Ok(server),
+        Err(_) => Err("wipe".into()),
+    }
 }
 
-/// The tables of files and links, over a server.
-fn files_and_links(alloc: Global, server: Srv) -> Result<(), Fail> {
-    let mut service = Service::new(alloc, server)?;
-    files::made(alloc, &mut service)?;
-    files::written(alloc, &mut service)?;
-    files::set(alloc, &mut service)
+fn created(server: &mut Srv, dir: &Handle, name: &[u8]) -> Result<Handle, Fail>
+    requires tree { HasTree (⟦<Srv as FileServer>⟧.state server.old) }
+    requires name { is_name name.now ≡ true }
+    ensures { OnOk result (HasTree (⟦<Srv as FileServer>⟧.state server.new)) }
+{
+    match server.create(dir, name) {
+        Ok(handle) => Ok(handle),
+        Err(_) => Err("create".into()),
+    }
 }
 
-/// The tables of names that are given, taken and moved, over two servers.
-fn names_and_moves(alloc: Global, first: Srv, second: Srv) -> Result<(), Fail> {
-    let mut service = Service::new(alloc, first)?;
-    names::linked(alloc, &mut service)?;
-    names::not_linked(alloc, &mut service)?;
-    names::removed(alloc, &mut service)?;
-    names::dirs_removed(alloc, &mut service)?;
-    let mut service = Service::new(alloc, second)?;
-    moves::refused(alloc, &mut service)?;
-    moves::tested(alloc, &mut service)?;
-    moves::files_moved(alloc, &mut service)?;
-    moves::dirs_moved(alloc, &mut service)?;
-    moves::written_below(alloc, &mut service)
+/// How many bytes of a piece were taken; none where the server refused.
+fn taken(server: &mut Srv, file: &Handle, offset: u32, piece: &[u8]) -> Result<Option<u32>, Fail>
+    requires tree { HasTree (⟦<Srv as FileServer>⟧.state server.old) }
+    requires some { 1 ≤ length piece.now }
+    requires low { offset + length piece.now ≤ 8388608 }
+    ensures { OnOk result (HasTree (⟦<Srv as FileServer>⟧.state server.new)) }
+{
+    match server.write(file, offset, piece) {
+        Ok(count) => Ok(Some(count)),
+        Err(SrvErr::Refused) => Ok(None),
+        Err(_) => Err("write".into()),
+    }
 }
 
-/// A path server.
-fn path_server(alloc: Global) -> Result<PathServer, Fail> {
-    match PathServer::new(alloc, LIMITS) {
-        Ok(server) => Ok(server),
-        Err(_) => Err("no memory".into()),
+fn listed(server: &mut Srv, dir: &Handle) -> Result<Vec<Listed>, Fail>
+    requires { HasTree (⟦<Srv as FileServer>⟧.state server.old) }
+{
+    match server.list(dir) {
+        Ok(rows) => Ok(rows),
+        Err(_) => Err("list".into()),
     }
 }
 
 #[test]
-fn over_a_path_server(rt: HostRuntime) -> Result<(), Fail> {
+fn it_does_no_more_than_it_must(rt: HostRuntime) -> Result<(), Fail> {
     let alloc = rt.alloc();
-    directories(alloc, Box::new(alloc, path_server(alloc)?)?)?;
-    files_and_links(alloc, Box::new(alloc, path_server(alloc)?)?)?;
-    let second = Box::new(alloc, path_server(alloc)?)?;
-    names_and_moves(alloc, Box::new(alloc, path_server(alloc)?)?, second)
-}
-
-#[test]
-fn over_a_reluctant_server(rt: HostRuntime) -> Result<(), Fail> {
-    let alloc = rt.alloc();
-    directories(alloc, Box::new(alloc, Reluctant::new(path_server(alloc)?))?)?;
-    files_and_links(alloc, Box::new(alloc, Reluctant::new(path_server(alloc)?))?)?;
-    let second = Box::new(alloc, Reluctant::new(path_server(alloc)?))?;
-    names_and_moves(
-        alloc,
-        Box::new(alloc, Reluctant::new(path_server(alloc)?))?,
-        second,
-    )
+    let mut server = reluctant(alloc)?;
+    let root = server.root();
+    let file = created(&mut server, &root, b"a")?;
+    created(&mut server, &root, b"b")?;
+    // Of three bytes it takes one, and none past the end.
+    let first = taken(&mut server, &file, 0, b"xyz")?;
+    assert!(rt; first == Some(1));
+    let past = taken(&mut server, &file, 2, b"z")?;
+    assert!(rt; past.is_none());
+    // A PathServer lists in the order of names; this one the other way round.
+    let rows = listed(&mut server, &root)?;
+    assert!(rt; rows.len() == 2);
+    let names: [&[u8]; 2] = [b"b", b"a"];
+    for (row, name) in rows.iter().zip(names) {
+        assert!(rt; row.name.as_slice() == name);
+    }
+    Ok(())
 }

@@ -1,7 +1,7 @@
 //! Names that are given and taken: REMOVE 10, LINK 12, RMDIR 15 (RFC 1094, 2.2). The statuses are those of 2.3.1.
 
 ghost use Rattle.std.specs.Prelude.{OnOk};
-ghost use Rattle.reluctant_server.specs.Ready.{IsReady};
+ghost use Rattle.service_tests.specs.Ready.{IsReady};
 
 use super::service::Service;
 use super::words::{A, B, D, DOT, DOTS, E, EMPTY, KEEP, L, ROOT, SLASH, STALE, X, size};

@@ -1,7 +1,7 @@
 //! Files and links: SETATTR 2, READLINK 5, READ 6, WRITE 8, CREATE 9, SYMLINK 13 (RFC 1094, 2.2). The statuses are those of 2.3.1.
 
 ghost use Rattle.std.specs.Prelude.{OnOk};
-ghost use Rattle.reluctant_server.specs.Ready.{IsReady};
+ghost use Rattle.service_tests.specs.Ready.{IsReady};
 
 use super::service::Service;
 use super::words::{A, DOT, EMPTY, KEEP, L, ROOT, SLASH, STALE, size};

@@ -1,7 +1,7 @@
 //! Names that move: RENAME 11 (RFC 1094, 2.2.12). The statuses are those of 2.3.1.
 
 ghost use Rattle.std.specs.Prelude.{OnOk};
-ghost use Rattle.reluctant_server.specs.Ready.{IsReady};
+ghost use Rattle.service_tests.specs.Ready.{IsReady};
 
 use super::service::Service;
 use super::words::{A, B, D, DOT, DOTS, E, EMPTY, F, G, H, KEEP, Q, ROOT, SLASH, STALE, X};

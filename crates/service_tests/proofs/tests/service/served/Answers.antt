@@ -1,6 +1,6 @@
 use Rattle.std.proofs.Common.{sym, subst}
 use Rattle.conf_map.specs.Stands.{HasRoom}
-use Rattle.reluctant_server.proofs.tests.service.served.Goals as goal
+use Rattle.service_tests.proofs.tests.service.served.Goals as goal
 
 pub returns-in-Ok : goal.returns-in-Ok
 returns-in-Ok g c =

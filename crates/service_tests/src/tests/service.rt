@@ -2,7 +2,7 @@
 
 ghost use Rattle.std.specs.Prelude.{◌≡◌, ◌<◌, ◌≤◌, ◌^◌, IfOk, OnOk, length};
 ghost use Rattle.conf_map.specs.Stands.{HasRoom};
-ghost use Rattle.reluctant_server.specs.Ready.{IsReady};
+ghost use Rattle.service_tests.specs.Ready.{IsReady};
 
 use abs_plain::{AbsArray, is_valid, plain_step};
 use conf_map::{TouchList, fresh};

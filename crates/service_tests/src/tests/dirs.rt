@@ -1,7 +1,7 @@
 //! Directories: GETATTR 1, SETATTR 2, LOOKUP 4, MKDIR 14, READDIR 16 and STATFS 17 (RFC 1094, 2.2). The statuses are those of 2.3.1.
 
 ghost use Rattle.std.specs.Prelude.{OnOk};
-ghost use Rattle.reluctant_server.specs.Ready.{IsReady};
+ghost use Rattle.service_tests.specs.Ready.{IsReady};
 
 use super::service::Service;
 use super::words::{A, B, DOT, DOTS, EMPTY, KEEP, L, ROOT, SLASH, STALE, size};
