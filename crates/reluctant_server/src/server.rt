@@ -104,6 +104,10 @@ impl<S: FileServer> FileServer for Reluctant<S> {
         self.inner.rename(from, name, to, to_name)
     }
 
+    fn reboot(&mut self) -> Result<(), SrvErr> {
+        self.inner.reboot()
+    }
+
     fn wipe(&mut self) -> Result<(), SrvErr> {
         self.inner.wipe()
     }

@@ -5,6 +5,7 @@ use Rattle.std.specs.declared.alloc.Global.{Global}
 use Rattle.nfs2_types.specs.Bytes.{resized, overwritten}
 use Rattle.server_trait.specs.Tree.{Tree, Node, Names, Content, BytesOf, TextOf, NamesOf, Server, node_at, bytes_in, text_in, names_in, bytes_at, text_at, names_at, target, kind_of, size_of, links_of, new_node, with_attr, with_bytes, with_node, edited, named, unnamed, let_go}
 use Rattle.server_trait.specs.Step.{Counts, Outcome, Called, IsStale, IsNo, HasName, LacksName, HasNames, IsAtOrBelow, NoRoom}
+use Rattle.server_trait.specs.declared.server.TheConstants.{NAME_BYTES}
 use Rattle.server_trait.specs.declared.server.SrvErr.{SrvErr}
 use Rattle.server_trait.specs.declared.server.SrvErr.TheVariants.{Stale, NoEnt, Exists, NotDir, WrongKind, NotEmpty, Subtree, Refused, Full, Fault, NoMemory}
 use Rattle.server_trait.specs.declared.server.ServerLimits.{ServerLimits}
@@ -122,7 +123,7 @@ ListNames old dir r new = Called
 -- the errors of a call that makes a node of so many bytes under a new name
 abbrev pub MakeErr : ServerLimits → List ℕ → List ℕ → ℕ → Tree → SrvErr → Type 0
 MakeErr limits dir name bytes t Exists = HasName t dir name
-MakeErr limits dir name bytes t Full = NoRoom limits t 1 0 (512 + bytes)
+MakeErr limits dir name bytes t Full = NoRoom limits t 1 0 (NAME_BYTES + bytes)
 MakeErr limits dir name bytes t e = DirErr dir t e
 
 -- no node has the number
@@ -163,7 +164,7 @@ LinkErr limits h dir name t Stale = IsStale t h ⊎ IsStale t dir
 LinkErr limits h dir name t NotDir = IsNo names_in t dir
 LinkErr limits h dir name t WrongKind = IsDir t h
 LinkErr limits h dir name t Exists = HasName t dir name
-LinkErr limits h dir name t Full = NoRoom limits t 0 0 512
+LinkErr limits h dir name t Full = NoRoom limits t 0 0 NAME_BYTES
 LinkErr limits h dir name t e = ⊥
 
 -- `link`: the name leads to the node
@@ -238,6 +239,39 @@ Rename old from name to to_name r new =
 -- `root`
 abbrev pub RootIs : Server → List ℕ → Type 0
 RootIs s h = (t : Tree) → s.tree ≡ Some t → h ≡ t.root
+
+-- the content, where each handle is another
+abbrev pub IsMovedContent : (List ℕ → List ℕ) → Content → Content → Type 0
+IsMovedContent new (BytesOf b) c = c ≡ BytesOf b
+IsMovedContent new (TextOf x) c = c ≡ TextOf x
+IsMovedContent new (NamesOf m) c =
+    IsSomeAnd (names_in c) (λ m'. (name : List ℕ) → get m' name ≡ option_map new (get m name))
+
+-- the node, where each handle is another; its number is as it was
+pub record IsMovedNode (new : List ℕ → List ℕ) (n n' : Node) : Type 0 where
+  pub number : n'.number ≡ n.number
+  pub mode : n'.mode ≡ n.mode
+  pub uid : n'.uid ≡ n.uid
+  pub gid : n'.gid ≡ n.gid
+  pub content : IsMovedContent new n.content n'.content
+
+-- the tree, where each node is under a new handle, and no two are under one
+pub record IsMovedTree (new : List ℕ → List ℕ) (t t' : Tree) : Type 0 where
+  pub root : t'.root ≡ new t.root
+  pub there : (q : List ℕ) (n : Node) → node_at t q ≡ Some n → IsSomeAnd (node_at t' (new q)) (IsMovedNode new n)
+  pub back : (q : List ℕ) → IsSome (node_at t' q) → (p : List ℕ) × (q ≡ new p) × IsSome (node_at t p)
+  pub apart : (p q : List ℕ) → IsSome (node_at t p) → IsSome (node_at t q) → new p ≡ new q → p ≡ q
+
+-- the same tree stands, each node under a handle that may be another
+pub record Rebooted (t : Tree) (after : Option Tree) : Type 0 where
+  pub tree : Tree
+  pub new : List ℕ → List ℕ
+  pub moved : IsMovedTree new t tree
+  pub has_tree : after ≡ Some tree
+
+-- `reboot`
+abbrev pub Reboot : Server → Result Unit SrvErr → Server → Type 0
+Reboot old r new = Called (λ t. Outcome (λ _. Rebooted t) (λ _. ⊥) t) old r new
 
 -- an empty root
 pub record IsFresh (new : Option Tree) : Type 0 where

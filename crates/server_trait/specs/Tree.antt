@@ -6,6 +6,7 @@ use Rattle.std.specs.FinMap.{FinMap, get, insert, remove, len}
 use Rattle.nfs2_types.specs.declared.fattr.Kind.{Kind}
 use Rattle.nfs2_types.specs.declared.fattr.Kind.TheVariants.{File, Dir, Link}
 use Rattle.server_trait.specs.Sums.{total}
+use Rattle.server_trait.specs.declared.server.TheConstants.{NAME_BYTES}
 use Rattle.server_trait.specs.declared.server.ServerLimits.{ServerLimits}
 
 -- a finite map from byte strings
@@ -123,11 +124,11 @@ links_of t h (BytesOf b) = links t h
 links_of t h (TextOf x) = links t h
 links_of t h (NamesOf m) = subdirs t m
 
--- file bytes, link bytes, and 512 for each name
+-- file bytes, link bytes, and `NAME_BYTES` for each name
 abbrev pub used_by : Content → ℕ
 used_by (BytesOf b) = length b
 used_by (TextOf x) = length x
-used_by (NamesOf m) = 512 * len m
+used_by (NamesOf m) = NAME_BYTES * len m
 
 -- the bytes in use
 unfoldable pub used : Tree → ℕ

@@ -4,13 +4,16 @@ ghost use Rattle.std.specs.Prelude.{◌≡◌, ◌≤◌, ◌+◌, true, length}
 ghost use Rattle.nfs2_types.specs.Names.{is_name};
 ghost use Rattle.server_trait.specs.Tree.{Server};
 ghost use Rattle.server_trait.specs.Step.{HasTree};
-ghost use Rattle.server_trait.specs.Calls.{RootIs, Attr, SetAttr, Read, ReadLink, Write, SetSize, Lookup, ListNames, Create, Mkdir, Symlink, Link, Remove, Rmdir, Rename, Wipe};
+ghost use Rattle.server_trait.specs.Calls.{RootIs, Attr, SetAttr, Read, ReadLink, Write, SetSize, Lookup, ListNames, Create, Mkdir, Symlink, Link, Remove, Rmdir, Rename, Reboot, Wipe};
 
 use nfs2_types::{Blob, Handle, Kind, Time};
 use std::alloc::Global;
 use thiserror::Error;
 
-/// The most that a server holds: nodes, and bytes of files and links with 512 for each name.
+/// The bytes that a name counts for.
+pub const NAME_BYTES: u64 = 512;
+
+/// The most that a server holds: nodes, and bytes of files and links with `NAME_BYTES` for each name.
 #[derive(Clone, Copy, Debug, PartialEq, Eq)]
 pub struct ServerLimits {
     pub nodes: u32,
@@ -29,6 +32,32 @@ pub struct NodeAttr {
     pub size: u32,
     pub links: u32,
     pub time: Time,
+}
+
+impl NodeAttr {
+    ghost use Rattle.std.specs.Prelude.{◌↔◌, IsTrue};
+    ghost use Rattle.nfs2_types.specs.declared.fattr.Kind.TheVariants.{File, Dir, Link as LinkKind};
+
+    /// Whether it is a file.
+    pub fn is_file(&self) -> bool
+        ensures { IsTrue result ↔ (self.now.kind ≡ File) }
+    {
+        self.kind == Kind::File
+    }
+
+    /// Whether it is a directory.
+    pub fn is_dir(&self) -> bool
+        ensures { IsTrue result ↔ (self.now.kind ≡ Dir) }
+    {
+        self.kind == Kind::Dir
+    }
+
+    /// Whether it is a link.
+    pub fn is_link(&self) -> bool
+        ensures { IsTrue result ↔ (self.now.kind ≡ LinkKind) }
+    {
+        self.kind == Kind::Link
+    }
 }
 
 /// A name of a directory, and the handle to which it leads.
@@ -177,6 +206,12 @@ pub trait FileServer: Drop {
         requires to_name { is_name to_name.now ≡ true }
         ensures { Rename (state self.old) from.now name.now to.now to_name.now result (state self.new) };
 
+    /// Starts anew with the same nodes and numbers, each node under a handle that may be another. Errors: none but Fault
+    /// and NoMemory.
+    fn reboot(&mut self) -> Result<(), SrvErr>
+        requires { HasTree (state self.old) }
+        ensures { Reboot (state self.old) result (state self.new) };
+
     /// Makes an empty root, whatever was there. It works in any state.
     fn wipe(&mut self) -> Result<(), SrvErr>
         ensures { Wipe (state self.old) result (state self.new) };
@@ -261,6 +296,10 @@ impl FileServer for Srv {
         to_name: &[u8],
     ) -> Result<(), SrvErr> {
         (**self).rename(from, name, to, to_name)
+    }
+
+    fn reboot(&mut self) -> Result<(), SrvErr> {
+        (**self).reboot()
     }
 
     fn wipe(&mut self) -> Result<(), SrvErr> {

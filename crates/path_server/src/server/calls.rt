@@ -197,6 +197,10 @@ impl FileServer for PathServer {
         self.move_to(from, within, name, to, to_name, &moved)
     }
 
+    fn reboot(&mut self) -> Result<(), SrvErr> {
+        Ok(())
+    }
+
     fn wipe(&mut self) -> Result<(), SrvErr> {
         match self.start() {
             Ok(()) => Ok(()),
