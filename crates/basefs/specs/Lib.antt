@@ -1,4 +1,3 @@
-pub mod Flaking
 pub mod Going
 pub mod Log
 pub mod Replayed

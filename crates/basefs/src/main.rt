@@ -4,8 +4,6 @@
 ghost use Rattle.std.specs.Prelude.{◌<◌, ◌^◌, vec_len};
 
 mod bench;
-#[cfg(test)]
-mod flaky;
 mod program;
 mod replay;
 mod run;

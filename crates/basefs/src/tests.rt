@@ -9,7 +9,7 @@ mod space;
 ghost use Rattle.std.specs.Prelude.{◌≤◌, ◌<◌, ◌^◌, vec_len, IfOk, ◌≡◌};
 
 use super::*;
-use crate::flaky::{Call, Flaky};
+use flaky_server::{Fail as FailAt, Flaky, SrvCall};
 use outside::{MemSink, MemSource};
 use server_trait::FaultPoint;
 use std::alloc::{AllocError, Global};
@@ -351,20 +351,21 @@ fn servers_that_are_too_small(rt: HostRuntime) -> Result<(), Fail> {
     Ok(())
 }
 
-/// A bench of one server that fails at the call of this kind that comes behind so many others.
-fn flaky_bench(alloc: Global, fails: Call, behind: u32) -> Result<Bench, Fail>
+/// A bench of one server that fails at the call of this kind with this number, counted from 1, and at each behind it.
+fn flaky_bench(alloc: Global, call: SrvCall, number: u64) -> Result<Bench, Fail>
     ensures { IfOk result (λ bench. vec_len bench.servers ≡ 1) }
 {
     let Ok(server) = PathServer::new(alloc, LIMITS) else {
         return Err("no memory".into());
     };
-    let server: Srv = Box::new(alloc, Flaky::new(server, fails, behind))?;
+    let fails = vec![in alloc; FailAt { call, from: number, to: u64::MAX }]?;
+    let server: Srv = Box::new(alloc, Flaky::new(server, fails))?;
     Ok(Bench::new(alloc, vec![in alloc; server]?))
 }
 
 #[test]
 fn a_server_that_fails_at_the_start(rt: HostRuntime) -> Result<(), Fail> {
-    let mut bench = flaky_bench(rt.alloc(), Call::Wipe, 0)?;
+    let mut bench = flaky_bench(rt.alloc(), SrvCall::Wipe, 1)?;
     let (status, text) = run_bench(rt.alloc(), null_log(rt.alloc())?, WHOLE, &mut bench)?;
     assert_eq!(rt; status, Status::Done);
     assert_eq!(rt; text.as_slice(), b"down 0\nat 0 down\n".as_slice());
@@ -400,7 +401,7 @@ fn a_server_that_fails_in_mid_stream(rt: HostRuntime) -> Result<(), Fail> {
             &[RUN_ALL, END],
         ],
     )?;
-    let mut bench = flaky_bench(rt.alloc(), Call::Mkdir, 2)?;
+    let mut bench = flaky_bench(rt.alloc(), SrvCall::Mkdir, 3)?;
     let (status, text) = run_bench(rt.alloc(), log, WHOLE, &mut bench)?;
     assert_eq!(rt; status, Status::Done);
     assert_eq!(rt; text.as_slice(), TWO_REPLIES.as_bytes());

@@ -18,6 +18,7 @@ pub enum SrvCall {
     Remove,
     Rmdir,
     Rename,
+    Reboot,
     Wipe,
 }
 

@@ -36,6 +36,7 @@ struct Counts {
     remove: u64,
     rmdir: u64,
     rename: u64,
+    reboot: u64,
     wipe: u64,
 }
 
@@ -57,6 +58,7 @@ impl Counts {
             SrvCall::Remove => &mut self.remove,
             SrvCall::Rmdir => &mut self.rmdir,
             SrvCall::Rename => &mut self.rename,
+            SrvCall::Reboot => &mut self.reboot,
             SrvCall::Wipe => &mut self.wipe,
         }
     }
@@ -90,6 +92,7 @@ impl Plan {
                 remove: 0,
                 rmdir: 0,
                 rename: 0,
+                reboot: 0,
                 wipe: 0,
             },
             down: false,

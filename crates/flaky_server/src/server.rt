@@ -135,6 +135,12 @@ impl<S: FileServer> FileServer for Flaky<S> {
         self.plan.note(answer)
     }
 
+    fn reboot(&mut self) -> Result<(), SrvErr> {
+        self.plan.begin(SrvCall::Reboot)?;
+        let answer = self.inner.reboot();
+        self.plan.note(answer)
+    }
+
     fn wipe(&mut self) -> Result<(), SrvErr> {
         self.plan.begin(SrvCall::Wipe)?;
         self.plan.down = false;
