@@ -1,3 +1,3 @@
-pub mod Lengths
-pub mod Sound
-pub mod Spelled
+pub mod EventTexts
+pub mod HeaderTexts
+pub mod KindPlans

@@ -1,43 +1,34 @@
-//! What holds of the spellings of headers and records.
+//! What holds of the texts of records.
 
-ghost use Rattle.std.specs.Prelude.{◌≡◌, ◌≢◌, ◌+◌, ◌++◌, ℕ, List, Some, IsTrue, length};
+ghost use Rattle.std.specs.Prelude.{◌≡◌, ◌++◌, ◌+◌, ◌≤◌, List, ℕ, [], Ok, length};
+ghost use Rattle.xdr_core.specs.Grammar.{Spells, reads};
+ghost use Rattle.xdr_cut.specs.Cut.{IsShort, Begins};
 ghost use Rattle.log_format.specs.declared.event.Event.{Event};
-ghost use Rattle.log_format.specs.declared.event.Event.TheVariants.{Unbuilt};
-ghost use Rattle.log_format.specs.declared.header.Header.{Header};
-ghost use Rattle.log_format.specs.Records.{header_at, is_within, record_at, record_len};
-ghost use Rattle.log_format.specs.Spelling.{IsBytes, HasText, header_text, record_text};
+ghost use Rattle.log_format.specs.Records.{event_form};
+ghost use Rattle.log_format.specs.Spelling.{event_text};
 
-/// What is read as a header is spelled as it, and its spelling is read as it again, whatever
-/// follows. So no spelling of a header begins another.
-pub fn headers_are_their_spellings()
-    ensures spelled { (bytes rest : List ℕ) (h : Header) → IsBytes bytes
-        → header_at bytes ≡ Some (h, rest)
-        → (bytes ≡ header_text h ++ rest) × IsTrue (is_within h) }
-    ensures read { (h : Header) (rest : List ℕ) → IsTrue (is_within h)
-        → header_at (header_text h ++ rest) ≡ Some (h, rest) }
-    ensures one { (h other : Header) (rest behind : List ℕ)
-        → IsTrue (is_within h) → IsTrue (is_within other)
-        → header_text h ++ rest ≡ header_text other ++ behind
-        → (h ≡ other) × (rest ≡ behind) }
+/// No record begins another.
+pub fn no_prefix()
+    ensures { (f servers : ℕ) (a b : Event) (text more : List ℕ)
+        → Spells (event_form f servers) a text → Spells (event_form f servers) b (text ++ more)
+        → (more ≡ []) × (a ≡ b) }
 {}
 
-/// What is read as a record that is built is spelled as it, and its spelling is read as it again,
-/// whatever follows. So no spelling of a record begins another.
-pub fn records_are_their_spellings()
-    ensures spelled { (bytes rest : List ℕ) (e : Event) → IsBytes bytes
-        → record_at bytes ≡ Some (e, rest) → e ≢ Unbuilt
-        → (bytes ≡ record_text e ++ rest) × HasText e }
-    ensures read { (e : Event) (rest : List ℕ) → HasText e
-        → record_at (record_text e ++ rest) ≡ Some (e, rest) }
-    ensures one { (e other : Event) (rest behind : List ℕ) → HasText e → HasText other
-        → record_text e ++ rest ≡ record_text other ++ behind
-        → (e ≡ other) × (rest ≡ behind) }
+/// A record has one text, of at most 65,556 bytes, and it is read again, whatever stands behind it.
+pub fn again()
+    ensures one { (f servers : ℕ) (e : Event) (text : List ℕ)
+        → Spells (event_form f servers) e text → event_text e ≡ text }
+    ensures len { (f servers : ℕ) (e : Event) (text : List ℕ)
+        → Spells (event_form f servers) e text → length text ≤ 65556 }
+    ensures read { (f servers : ℕ) (e : Event) (text more : List ℕ)
+        → Spells (event_form f servers) e text
+        → reads (event_form f servers) (record { at = 0; rest = text ++ more })
+        ≡ Ok (e, record { at = 0 + length text; rest = more }) }
 {}
 
-/// A header takes 24 bytes, and a record as many as `record_len` says, also one not built yet.
-pub fn lengths_are_told()
-    ensures header { (bytes rest : List ℕ) (h : Header) → header_at bytes ≡ Some (h, rest)
-        → length bytes ≡ 24 + length rest }
-    ensures record_read { (bytes rest : List ℕ) (e : Event) → record_at bytes ≡ Some (e, rest)
-        → length bytes ≡ record_len e + length rest }
+/// A front that is short and is filled up to its need has no record that ends before the need.
+pub fn taken_whole()
+    ensures { (f servers : ℕ) (front new : List ℕ) (need : ℕ) (e : Event) (n : ℕ)
+        → IsShort (event_form f servers) front need → length (front ++ new) ≡ need
+        → Begins (event_form f servers) (front ++ new) e n → n ≡ need }
 {}
