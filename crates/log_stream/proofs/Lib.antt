@@ -1,4 +1,4 @@
-pub mod Lengths
-pub mod ReadSteps
 pub mod Taken
 pub mod WriteSteps
+pub mod RecordSteps
+pub mod Lengths

@@ -1,7 +1,10 @@
 -- What reading from a source takes from it.
-use Rattle.std.specs.Prelude.{◌≡◌, ℕ, ◌++◌, List, Option, Some, None, Result, Ok, Err, IfSome, IsErrOf, ◌≤◌, ◌<◌, length}
+use Rattle.std.specs.Prelude.{◌≡◌, ◌≢◌, ℕ, ◌++◌, List, [], Option, Some, None, Result, Ok, Err, IfSome, IsErrOf, ◌≤◌, ◌<◌, length}
 use Rattle.std.specs.Io.KnownBytes.{Consumes, IsAtEnd}
 use Rattle.outside.specs.Causes.{Rose}
+use Rattle.xdr_core.specs.Grammar.{Grammar}
+use Rattle.xdr_core.specs.Grammar as grammar
+use Rattle.xdr_cut.specs.Cut.{IsShort}
 use Rattle.log_stream.specs.declared.fault.ReadErr.{ReadErr}
 use Rattle.log_stream.specs.declared.fault.ReadErr.TheVariants.{Failed, NoMemory, Wrong}
 
@@ -46,6 +49,35 @@ pub record Fills {X : Type 0} (old new : Option (List ℕ)) (buf : List ℕ) (re
   pub taken : List ℕ
   pub consumed : Consumes old new taken
   pub outcome : FillOutcome buf taken new result
+
+-- What taking more bytes from a source leaves: so many in hand, or fewer.
+abbrev pub MoreOutcome : {X : Type 0} → List ℕ → List ℕ → List ℕ → ℕ → Option (List ℕ) → Result X ReadErr
+    → Type 0
+MoreOutcome before after piece need left (Ok x) = (after ≡ before ++ piece) × (length after ≡ need)
+MoreOutcome before after piece need left (Err Failed) = length (before ++ piece) < need
+MoreOutcome before after piece need left (Err Wrong) = (length (before ++ piece) < need) × IsAtEnd left
+MoreOutcome before after piece need left (Err NoMemory) = length (before ++ piece) ≤ need
+
+-- a source handed out a piece, which stands behind the bytes in hand
+pub record TakesMore {X : Type 0} (old new : Option (List ℕ)) (before after : List ℕ) (need : ℕ)
+    (result : Result X ReadErr) : Type 0 where
+  pub piece : List ℕ
+  pub consumed : Consumes old new piece
+  pub outcome : MoreOutcome before after piece need new result
+
+-- A source handed out no more than a value needs: all but the last piece begin a value, and none that begins
+-- so is shorter than all of them.
+pub record TakesPart {A : Type 0} (g : Grammar A) (old new : Option (List ℕ)) : Type 0 where
+  pub front : List ℕ
+  pub piece : List ℕ
+  pub consumed : Consumes old new (front ++ piece)
+  pub within : piece ≢ [] → (need : ℕ) × IsShort g front need × (length (front ++ piece) ≤ need)
+
+-- what a source handed out is the value's text, and not a byte more
+pub record TakesText {A : Type 0} (g : Grammar A) (old new : Option (List ℕ)) (value : A) (text : List ℕ)
+    : Type 0 where
+  pub consumed : Consumes old new text
+  pub spells : grammar.Spells g value text
 
 -- the count never falls, and a failure comes only where it rose
 pub record ReadHasCause {T : Type 0} (before now : ℕ) (result : Result T ReadErr) : Type 0 where

@@ -8,5 +8,5 @@ mod tests;
 mod writing;
 
 pub use fault::ReadErr;
-pub use reading::{read_header, read_record, record_len};
+pub use reading::{Record, read_header, read_record};
 pub use writing::write_lines;

@@ -1,34 +1,28 @@
-//! Items of a log from a source, of which never more than the item in hand is read.
+//! A header and records from a source, and never a byte behind the one in hand.
 
-ghost use Rattle.std.specs.Prelude.{◌≡◌, ◌<◌, ◌≤◌, ◌^◌, ◌==◌, ◌&&◌, true, nat_le, length, vec_len, List, ℕ, IfOk, codes};
-ghost use Rattle.std.specs.List.{list_all};
-ghost use Rattle.std.specs.Str.{bytes_eq};
-ghost use Rattle.log_format.specs.Items.{piece_at, word_at, opaque_at};
-ghost use Rattle.log_format.specs.Records.{header_at, request_at, record_of, record_at, record_len as len_of, is_within as is_within_limits};
-ghost use Rattle.log_stream.specs.Reading.{Reads, Fills, ReadHasCause};
+ghost use Rattle.std.specs.Prelude.{◌≡◌, ◌≢◌, ◌<◌, ◌≤◌, true, length, vec_len, IfOk, OnErr, Err};
+ghost use Rattle.xdr_core.specs.Items.{IsBytes};
+ghost use Rattle.log_format.specs.Records.{header_at, record_at, event_form, is_within};
+ghost use Rattle.log_format.specs.Spelling.{record_len};
+ghost use Rattle.log_stream.specs.Reading.{Reads, Fills, TakesMore, TakesPart, TakesText, ReadHasCause};
+ghost use Rattle.log_stream.specs.declared.fault.ReadErr.TheVariants as errors;
 
 use crate::fault::ReadErr;
-use log_format::{Event, Header};
-use nfs2_types::{Blob, Time};
+use log_format::{Event, EventErr, Header, HeaderErr, read_event};
 use outside::Source;
 use std::alloc::Global;
 
-/// The most bytes of a call.
-const MOST_CALL: u32 = 65536;
-
-/// The microseconds of a second.
-const SECOND: u32 = 1_000_000;
-
-/// The kinds of records.
-const REQUEST: u32 = 1;
-
-const RUN_ALL: u32 = 3;
-
-const END: u32 = 14;
+/// A record, and the bytes that were taken for it.
+#[derive(Debug, Drop)]
+pub struct Record {
+    pub event: Event,
+    pub bytes: Vec<u8>,
+}
 
 /// Fills the buffer.
 fn fill<S: Source>(input: &mut S, buf: &mut [u8]) -> Result<(), ReadErr>
     ensures bytes { Fills (S.left input.old) (S.left input.new) buf.new result }
+    ensures fits { IsBytes buf.new }
     ensures cause { ReadHasCause (S.faults input.old) (S.faults input.new) result }
 {
     let mut filled = 0usize;
@@ -45,158 +39,65 @@ fn fill<S: Source>(input: &mut S, buf: &mut [u8]) -> Result<(), ReadErr>
     Ok(())
 }
 
-/// Reads a number of four bytes, the high byte first.
-fn read_word<S: Source>(input: &mut S) -> Result<u32, ReadErr>
-    ensures bytes { Reads word_at (λ n. n) (S.left input.old) (S.left input.new) result }
+/// Takes bytes from the source until there are `need`.
+fn take_up_to<S: Source>(
+    alloc: Global,
+    bytes: &mut Vec<u8>,
+    need: usize,
+    input: &mut S,
+) -> Result<(), ReadErr>
+    requires { vec_len bytes.old < need }
+    ensures bytes { TakesMore (S.left input.old) (S.left input.new) bytes.old.items bytes.new.items need result }
+    ensures fits { IsBytes bytes.new.items }
     ensures cause { ReadHasCause (S.faults input.old) (S.faults input.new) result }
 {
-    let mut word = [0u8; 4];
-    fill(input, &mut word)?;
-    Ok(u32::from_be_bytes(word))
+    let mut piece = vec![in alloc; 0u8; need - bytes.len()]?;
+    fill(input, piece.as_mut_slice())?;
+    bytes.extend_from_slice(piece.as_slice())?;
+    Ok(())
 }
 
-/// Reads so many bytes.
-fn read_piece<S: Source>(alloc: Global, len: usize, input: &mut S) -> Result<Vec<u8>, ReadErr>
-    ensures bytes { Reads (piece_at len) (λ v. v.items) (S.left input.old) (S.left input.new) result }
-    ensures len { IfOk result (λ v. vec_len v ≡ len) }
+/// Reads a record from the front of the source, and not a byte behind it, where `f` replicas may fail
+/// and there are so many servers. `Wrong` says that the source has no record there.
+pub fn read_record<S: Source>(
+    alloc: Global,
+    input: &mut S,
+    f: u32,
+    servers: u32,
+) -> Result<Record, ReadErr>
+    requires { f ≤ 2 }
+    ensures bytes { Reads (record_at f servers) (λ r. r.event) (S.left input.old) (S.left input.new) result }
+    ensures text { IfOk result (λ r.
+        TakesText (event_form f servers) (S.left input.old) (S.left input.new) r.event r.bytes.items) }
+    ensures len { IfOk result (λ r. vec_len r.bytes ≡ record_len r.event) }
+    ensures small { IfOk result (λ r. vec_len r.bytes ≤ 65556) }
+    ensures part { OnErr result (TakesPart (event_form f servers) (S.left input.old) (S.left input.new)) }
     ensures cause { ReadHasCause (S.faults input.old) (S.faults input.new) result }
 {
-    let mut bytes = vec![in alloc; 0u8; len]?;
-    fill(input, bytes.as_mut_slice())?;
-    Ok(bytes)
-}
-
-/// Whether all bytes are zero.
-fn is_zeros(bytes: &[u8]) -> bool
-    ensures { result ≡ list_all (λ b. b == 0) bytes.now }
-{
-    bytes.iter().all(|b| *b == 0)
-}
-
-/// Reads a length of at most `most`, that many bytes, and their padding.
-fn read_opaque<S: Source>(alloc: Global, most: u32, input: &mut S) -> Result<Blob, ReadErr>
-    ensures bytes { Reads (opaque_at most) (λ b. b) (S.left input.old) (S.left input.new) result }
-    ensures len { IfOk result (λ b. length b ≤ most) }
-    ensures cause { ReadHasCause (S.faults input.old) (S.faults input.new) result }
-{
-    let len = read_word(input)?;
-    if len > most {
-        return Err(ReadErr::Wrong);
-    }
-    let bytes = read_piece(alloc, len as usize, input)?;
-    let pad = read_piece(alloc, ((4 - len % 4) % 4) as usize, input)?;
-    if !is_zeros(&pad) {
-        return Err(ReadErr::Wrong);
-    }
-    Ok(Blob::new(bytes))
-}
-
-/// Reads the fields of a request.
-fn read_request<S: Source>(alloc: Global, input: &mut S) -> Result<Event, ReadErr>
-    ensures bytes { Reads request_at (λ e. e) (S.left input.old) (S.left input.new) result }
-    ensures len { IfOk result (λ e. len_of e ≤ 65560) }
-    ensures cause { ReadHasCause (S.faults input.old) (S.faults input.new) result }
-{
-    let client = read_word(input)?;
-    let secs = read_word(input)?;
-    let micros = read_word(input)?;
-    if micros >= SECOND {
-        return Err(ReadErr::Wrong);
-    }
-    let bytes = read_opaque(alloc, MOST_CALL, input)?;
-    let time = Time { secs, micros };
-    Ok(Event::Request {
-        client,
-        time,
-        bytes,
-    })
-}
-
-/// Whether records of this kind are known and not built yet.
-fn is_unbuilt(kind: u32) -> bool
-    ensures { result ≡ (nat_le 2 kind && nat_le kind 13) }
-{
-    2 <= kind && kind <= 13
-}
-
-/// Reads the fields of a record of this kind.
-fn read_fields<S: Source>(alloc: Global, kind: u32, input: &mut S) -> Result<Event, ReadErr>
-    ensures bytes { Reads (record_of kind) (λ e. e) (S.left input.old) (S.left input.new) result }
-    ensures len { IfOk result (λ e. len_of e ≤ 65560) }
-    ensures cause { ReadHasCause (S.faults input.old) (S.faults input.new) result }
-{
-    if kind == REQUEST {
-        read_request(alloc, input)
-    } else if kind == RUN_ALL {
-        Ok(Event::RunAll)
-    } else if kind == END {
-        Ok(Event::End)
-    } else if is_unbuilt(kind) {
-        Ok(Event::Unbuilt)
-    } else {
-        Err(ReadErr::Wrong)
-    }
-}
-
-/// How many bytes a record takes in a log.
-pub fn record_len(event: &Event) -> u64
-    requires { len_of event.now < 2 ^ 64 }
-    ensures { result ≡ len_of event.now }
-{
-    match event {
-        Event::Request { bytes, .. } => {
-            let len = bytes.len() as u64;
-            20 + len + (4 - len % 4) % 4
+    let mut bytes = Vec::new(alloc);
+    loop {
+        match read_event(alloc, bytes.as_slice(), f, servers) {
+            Ok((event, _)) => return Ok(Record { event, bytes }),
+            Err(EventErr::Short { need }) => take_up_to(alloc, &mut bytes, need, input)?,
+            Err(EventErr::Wrong) => return Err(ReadErr::Wrong),
+            Err(EventErr::NoMemory) => return Err(ReadErr::NoMemory),
         }
-        Event::RunAll | Event::End | Event::Unbuilt => 4,
     }
-}
-
-/// Reads a record from the front of the source, and not a byte behind it. `Wrong` says that the source
-/// has no record there. After an error some bytes of the record may be taken.
-pub fn read_record<S: Source>(alloc: Global, input: &mut S) -> Result<Event, ReadErr>
-    ensures bytes { Reads record_at (λ e. e) (S.left input.old) (S.left input.new) result }
-    ensures len { IfOk result (λ e. len_of e ≤ 65560) }
-    ensures cause { ReadHasCause (S.faults input.old) (S.faults input.new) result }
-{
-    let kind = read_word(input)?;
-    read_fields(alloc, kind, input)
-}
-
-/// Whether the numbers of a header are within their limits.
-fn is_within(header: &Header) -> bool
-    ensures { result ≡ is_within_limits header.now }
-{
-    header.f <= 2
-        && (header.n == 16 || header.n == 256 || header.n == 4096)
-        && (1 <= header.k && header.k <= 1024)
-        && (512 <= header.t && header.t <= 16_777_216)
-}
-
-/// Whether this is the front of a log.
-fn is_header(magic: &[u8], header: &Header) -> bool
-    ensures { result ≡ (bytes_eq magic.now (codes "BASELOG1") && is_within_limits header.now) }
-{
-    magic == b"BASELOG1".as_slice() && is_within(header)
 }
 
 /// Reads a header of 24 bytes from the front of the source. `Wrong` says that the source has no header
-/// there. After an error some bytes of the header may be taken.
-pub fn read_header<S: Source>(alloc: Global, input: &mut S) -> Result<Header, ReadErr>
+/// there. It takes no memory.
+pub fn read_header<S: Source>(input: &mut S) -> Result<Header, ReadErr>
     ensures bytes { Reads header_at (λ h. h) (S.left input.old) (S.left input.new) result }
-    ensures within { IfOk result (λ h. is_within_limits h ≡ true) }
+    ensures within { IfOk result (λ h. is_within h ≡ true) }
     ensures interval { IfOk result (λ h. 0 < h.k) }
+    ensures memory { result ≢ Err errors.NoMemory }
     ensures cause { ReadHasCause (S.faults input.old) (S.faults input.new) result }
 {
-    let magic = read_piece(alloc, 8, input)?;
-    let f = read_word(input)?;
-    let n = read_word(input)?;
-    let k = read_word(input)?;
-    let t = read_word(input)?;
-    let header = Header { f, n, k, t };
-    if is_header(&magic, &header) {
-        Ok(header)
-    } else {
-        Err(ReadErr::Wrong)
+    let mut bytes = [0u8; 24];
+    fill(input, &mut bytes)?;
+    match log_format::read_header(&bytes) {
+        Ok(header) => Ok(header),
+        Err(HeaderErr::Wrong) => Err(ReadErr::Wrong),
     }
 }

@@ -9,11 +9,11 @@ use outside::{MemSink, MemSource, Sink, SinkErr, Source};
 use std::alloc::{AllocError, Global};
 use std::test::Fail;
 
-/// A header, a request with a call of five bytes, a RunAll, a record that is not built yet, an End.
+/// A header, a request with a call of five bytes, a RunAll, a Fetch, an End.
 const LOG: &[u8] = b"BASELOG1\0\0\0\x01\0\0\x10\0\0\0\x04\0\0\x01\0\0\
 \0\0\0\x01\0\0\0\x07\0\0\x03\xe8\0\x0f\x42\x3f\0\0\0\x05hello\0\0\0\
 \0\0\0\x03\
-\0\0\0\x0d\
+\0\0\0\x05\0\0\0\x03\0\0\0\x01\
 \0\0\0\x0e";
 
 const HEADER: Header = Header {
@@ -35,35 +35,39 @@ fn request(alloc: Global) -> Result<Event, NoMemory> {
     })
 }
 
+/// Reads a record where one replica may fail and there are five servers.
+fn event_read<S: Source>(alloc: Global, source: &mut S) -> Result<Event, ReadErr> {
+    match read_record(alloc, source, 1, 5) {
+        Ok(record) => Ok(record.event),
+        Err(e) => Err(e),
+    }
+}
+
 #[test]
 fn a_log_in_chunks(rt: HostRuntime) -> Result<(), Fail> {
     let alloc = rt.alloc();
     for chunk in [1usize, 3, 1000] {
         let mut source = MemSource::new(LOG.to_vec(alloc)?, chunk, Vec::new(alloc));
-        assert_eq!(rt; read_header(alloc, &mut source), Ok(HEADER));
-        assert_eq!(rt; read_record(alloc, &mut source), Ok(request(alloc)?));
-        assert_eq!(rt; read_record(alloc, &mut source), Ok(Event::RunAll));
-        assert_eq!(rt; read_record(alloc, &mut source), Ok(Event::Unbuilt));
-        assert_eq!(rt; read_record(alloc, &mut source), Ok(Event::End));
-        assert_eq!(rt; read_record(alloc, &mut source), Err(ReadErr::Wrong));
+        assert_eq!(rt; read_header(&mut source), Ok(HEADER));
+        assert_eq!(rt; event_read(alloc, &mut source), Ok(request(alloc)?));
+        assert_eq!(rt; event_read(alloc, &mut source), Ok(Event::RunAll));
+        assert_eq!(rt;
+            event_read(alloc, &mut source),
+            Ok(Event::Fetch { r: 3, n: 1 })
+        );
+        assert_eq!(rt; event_read(alloc, &mut source), Ok(Event::End));
+        assert_eq!(rt; event_read(alloc, &mut source), Err(ReadErr::Wrong));
     }
-    Ok(())
-}
-
-#[test]
-fn lengths_of_records(rt: HostRuntime) -> Result<(), Fail> {
-    assert_eq!(rt; record_len(&request(rt.alloc())?), 28);
-    assert_eq!(rt; record_len(&Event::End), 4);
     Ok(())
 }
 
 /// How many items of a log are read, of at most five, and why no more are.
 fn items_read<S: Source>(alloc: Global, source: &mut S) -> (u32, Option<ReadErr>) {
-    if let Err(e) = read_header(alloc, source) {
+    if let Err(e) = read_header(source) {
         return (0, Some(e));
     }
     for count in 1u32..5 {
-        if let Err(e) = read_record(alloc, source) {
+        if let Err(e) = event_read(alloc, source) {
             return (count, Some(e));
         }
     }
@@ -73,21 +77,13 @@ fn items_read<S: Source>(alloc: Global, source: &mut S) -> (u32, Option<ReadErr>
 #[test]
 fn a_source_fails_at_a_call(rt: HostRuntime) -> Result<(), Fail> {
     let alloc = rt.alloc();
-    // A call for each word, and one for each piece that has bytes.
-    for (call, count) in [
-        (1u64, 0u32),
-        (5, 0),
-        (6, 1),
-        (11, 1),
-        (12, 1),
-        (13, 2),
-        (15, 4),
-    ] {
+    // A call for the header, three for the request, one for the RunAll, two for the Fetch, one for the End.
+    for (call, count) in [(1u64, 0u32), (2, 1), (4, 1), (5, 2), (7, 3), (8, 4)] {
         let mut source = MemSource::new(LOG.to_vec(alloc)?, 1000, [call].to_vec(alloc)?);
         let read = (count, Some(ReadErr::Failed));
         assert_eq!(rt; items_read(alloc, &mut source), read, "at {call}");
     }
-    let mut source = MemSource::new(LOG.to_vec(alloc)?, 1000, [16].to_vec(alloc)?);
+    let mut source = MemSource::new(LOG.to_vec(alloc)?, 1000, [9].to_vec(alloc)?);
     assert_eq!(rt; items_read(alloc, &mut source), (5, None));
     Ok(())
 }
@@ -102,7 +98,8 @@ fn a_log_that_is_cut(rt: HostRuntime) -> Result<(), Fail> {
         (44, 1),
         (51, 1),
         (52, 2),
-        (63, 4),
+        (67, 3),
+        (71, 4),
     ] {
         let mut source = MemSource::new(LOG[..len].to_vec(alloc)?, 3, Vec::new(alloc));
         let read = (count, Some(ReadErr::Wrong));
@@ -144,9 +141,37 @@ fn words_at_their_limits(rt: HostRuntime) -> Result<(), Fail> {
         (48, 0x6f00_0001, 1),
         (52, 0, 2),
         (52, 15, 2),
+        (60, 4, 3),
+        (64, 0, 3),
     ] {
         let mut source = MemSource::new(with_word(alloc, at, word)?, 1000, Vec::new(alloc));
         assert_eq!(rt; items_read(alloc, &mut source).0, count, "{word} at {at}");
+    }
+    Ok(())
+}
+
+#[test]
+fn what_is_taken_of_a_wrong_record(rt: HostRuntime) -> Result<(), Fail> {
+    let alloc = rt.alloc();
+    for (at, word, taken) in [
+        (24usize, 0u32, 28usize),
+        (36, 1_000_000, 44),
+        (40, 65537, 44),
+        (48, 0x6f00_0001, 52),
+        (64, 0, 68),
+    ] {
+        let mut source = MemSource::new(with_word(alloc, at, word)?, 1000, Vec::new(alloc));
+        assert_eq!(rt;
+            items_read(alloc, &mut source).1,
+            Some(ReadErr::Wrong),
+            "{word} at {at}"
+        );
+        let mut rest = [0u8; 100];
+        assert_eq!(rt;
+            source.read(&mut rest),
+            Ok(LOG.len().saturating_sub(taken)),
+            "{word} at {at}"
+        );
     }
     Ok(())
 }

@@ -1,42 +1,22 @@
-use Rattle.std.proofs.Common.{◌≡◌, true, false, refl, sym}
-use Rattle.std.specs.Prelude.{◌&&◌, codes}
-use Rattle.std.specs.Str.{bytes_eq}
-use Rattle.log_format.specs.Records.{header_at, is_within}
-use Rattle.log_stream.proofs.ReadSteps.{reads_then, reads_stop, reads_pure, reads_wrong, reads_exit, reads_if_true, reads_if_false}
+use Rattle.std.proofs.Common.{◌≡◌, ℕ, List, subst, length, arith}
+use Rattle.std.specs.Io.KnownBytes.{Consumes}
+use Rattle.std.proofs.lemmas.Grind.{common_steps}
+use Rattle.log_format.specs.Records.{header_form}
+use Rattle.log_format.proofs.HeaderTexts.{header_len, header_no_start}
+use Rattle.log_stream.proofs.RecordSteps.{reads_unfilled, reads_whole, reads_wrong, reads_exit}
 use Rattle.log_stream.proofs.reading.read_header.Goals as goal
 
-pub returns-in_err-magic-clause-bytes : goal.returns-in_err-magic-clause-bytes
-unfolding header_at
-returns-in_err-magic-clause-bytes g c = reads_exit _ c.from_residual.ensures.1 (reads_stop _ c.in_err-magic.ensures.bytes)
+pub returns-in_err-fill-clause-bytes : goal.returns-in_err-fill-clause-bytes
+returns-in_err-fill-clause-bytes g c =
+    reads_exit _ c.from_residual.ensures.1 (reads_unfilled header_form (λ h. h) 24 _ _ c.fill.new.buf _ (λ h text s. omega (arith, header_len h text s)) (grind (arith, common_steps)) c.in_err-fill.ensures.bytes)
 
-pub returns-in_err-f-clause-bytes : goal.returns-in_err-f-clause-bytes
-unfolding header_at
-returns-in_err-f-clause-bytes g c = reads_exit _ c.from_residual-in_err-f.ensures.1 (reads_then _ c.in_ok-magic.ensures.bytes (reads_stop _ c.in_err-f.ensures.bytes))
+pub returns-in-Ok-clause-bytes : goal.returns-in-Ok-clause-bytes
+returns-in-Ok-clause-bytes g c =
+    let all = c.in_ok-fill.ensures.bytes in
+    reads_whole header_form (λ h. h) _ _ c.fill.new.buf c.in-Ok.header c.in_ok-fill.ensures.fits (subst (λ (t : List ℕ). Consumes (g.S.Source.left c.args.input.now) (g.S.Source.left c.fill.new.input) t) all.outcome all.consumed) c.in-Ok.ensures.found
 
-pub returns-in_err-n-clause-bytes : goal.returns-in_err-n-clause-bytes
-unfolding header_at
-returns-in_err-n-clause-bytes g c = reads_exit _ c.from_residual-in_err-n.ensures.1 (reads_then _ c.in_ok-magic.ensures.bytes (reads_then _ c.in_ok-f.ensures.bytes (reads_stop _ c.in_err-n.ensures.bytes)))
-
-pub returns-in_err-k-clause-bytes : goal.returns-in_err-k-clause-bytes
-unfolding header_at
-returns-in_err-k-clause-bytes g c =
-    reads_exit _ c.from_residual-in_err-k.ensures.1 (reads_then _ c.in_ok-magic.ensures.bytes (reads_then _ c.in_ok-f.ensures.bytes (reads_then _ c.in_ok-n.ensures.bytes (reads_stop _ c.in_err-k.ensures.bytes))))
-
-pub returns-in_err-t-clause-bytes : goal.returns-in_err-t-clause-bytes
-unfolding header_at
-returns-in_err-t-clause-bytes g c =
-    reads_exit _ c.from_residual-in_err-t.ensures.1 (reads_then _ c.in_ok-magic.ensures.bytes (reads_then _ c.in_ok-f.ensures.bytes (reads_then _ c.in_ok-n.ensures.bytes (reads_then _ c.in_ok-k.ensures.bytes (reads_stop _ c.in_err-t.ensures.bytes)))))
-
-pub returns-then-is_header-clause-bytes : goal.returns-then-is_header-clause-bytes
-unfolding header_at
-returns-then-is_header-clause-bytes g c =
-    let h : (bytes_eq c.in_ok-magic.magic.items (codes "BASELOG1") && is_within (record { f = c.in_ok-f.f; n = c.in_ok-n.n; k = c.in_ok-k.k; t = c.in_ok-t.t })) ≡ true = rw (← c.deref.ensures.value) (sym c.if-is_header.ensures) in
-    reads_then _ c.in_ok-magic.ensures.bytes (reads_then _ c.in_ok-f.ensures.bytes (reads_then _ c.in_ok-n.ensures.bytes (reads_then _ c.in_ok-k.ensures.bytes (reads_then _ c.in_ok-t.ensures.bytes
-    (reads_if_true h _ _ (reads_pure _ (λ bytes. refl)))))))
-
-pub returns-clause-bytes : goal.returns-clause-bytes
-unfolding header_at
-returns-clause-bytes g c =
-    let h : (bytes_eq c.in_ok-magic.magic.items (codes "BASELOG1") && is_within (record { f = c.in_ok-f.f; n = c.in_ok-n.n; k = c.in_ok-k.k; t = c.in_ok-t.t })) ≡ false = rw (← c.deref.ensures.value) (sym c.if-is_header.ensures) in
-    reads_then _ c.in_ok-magic.ensures.bytes (reads_then _ c.in_ok-f.ensures.bytes (reads_then _ c.in_ok-n.ensures.bytes (reads_then _ c.in_ok-k.ensures.bytes (reads_then _ c.in_ok-t.ensures.bytes
-    (reads_if_false h _ _ (reads_wrong (λ bytes. refl)))))))
+pub returns-in-Err-Wrong-clause-bytes : goal.returns-in-Err-Wrong-clause-bytes
+returns-in-Err-Wrong-clause-bytes g c =
+    let all = c.in_ok-fill.ensures.bytes in
+    let len : length c.fill.new.buf ≡ 24 = grind (arith, common_steps) in
+    reads_wrong header_form (λ h. h) _ _ c.fill.new.buf c.in_ok-fill.ensures.fits (subst (λ (t : List ℕ). Consumes (g.S.Source.left c.args.input.now) (g.S.Source.left c.fill.new.input) t) all.outcome all.consumed) (header_no_start c.fill.new.buf len (λ h s. c.in-Err-Wrong.ensures.only h s))
