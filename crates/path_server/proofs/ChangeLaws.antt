@@ -24,7 +24,7 @@ use Rattle.path_store.proofs.Rows.{bytes_exact}
 use Rattle.path_server.proofs.ContentLaws.{names_to-new}
 use Rattle.path_server.proofs.CountedLaws.{counted_same}
 use Rattle.path_store.proofs.NameLaws.{names_of-none}
-use Rattle.path_server.proofs.NamedLaws.{IsDirNode, is_some_none, is_and_none, dir_same}
+use Rattle.path_server.proofs.NamedLaws.{IsDirNode, beside_grown, is_some_none, is_and_none, dir_same}
 use Rattle.path_server.proofs.NodeLaws.{get-nodes_of, node_at-kept, node_here, kind_at}
 use Rattle.path_server.proofs.StoredLaws.{stored_put}
 use Rattle.path_server.proofs.Serials.{length-serial_bytes}
@@ -128,11 +128,12 @@ module _ (number : ℕ) (contents : Contents) where
     links = sym links_fresh;
   }
 
-  sound_fresh : (limits : ServerLimits) → IsSound limits (number + 1) 0 kept_fresh
-  sound_fresh limits = record {
+  sound_fresh : (limits : ServerLimits) → contents ≡ empty → IsSound limits (number + 1) 0 kept_fresh
+  sound_fresh limits none = record {
     serials = at_root (λ q x. (q ≡ serial_bytes x.number) × (x.number < number + 1)) (refl, omega arith);
     named = λ key h at. absurd (some_none at (get-empty (slice_cmp nat_cmp) key));
     counted = at_root (IsCounted kept_fresh) counted_fresh;
+    beside = λ h _. ap (λ m. get m h) none ∙ get-empty (slice_cmp nat_cmp) h;
     bytes_used = sym used_fresh;
     bytes_most = omega arith;
     nodes_most = let one : len kept_fresh.nodes ≡ 1 = len-insert nat_list_cmp_total empty root first_node
@@ -173,9 +174,10 @@ module _ (number : ℕ) (root : List ℕ) (nodes : ByBytes PathNode) (contents :
   pub stored_started : (store : Stored) → store ≡ only_root root → IsStored nodes store
   stored_started store is_store = rw (is_nodes, is_store, is_root) (stored_fresh number contents)
 
-  pub sound_started : (limits : ServerLimits) (next : ℕ) → next ≡ number + 1 →
+  pub sound_started : (limits : ServerLimits) (next : ℕ) → next ≡ number + 1 → contents ≡ empty →
       IsSound limits next 0 (kept_as root nodes contents paths)
-  sound_started limits next is_next = rw (is_nodes, is_paths, is_root, is_next) (sound_fresh number contents limits)
+  sound_started limits next is_next none = rw (is_nodes, is_paths, is_root, is_next) (sound_fresh number contents
+      limits none)
 
 -- OTHER ATTRIBUTES
 
@@ -238,6 +240,7 @@ module _ (limits : ServerLimits) (next bytes : ℕ) (k : Kept) (h : List ℕ) (p
   sound_set sound = record {
     serials = by_place (λ q x. (q ≡ serial_bytes x.number) × (x.number < next)) (sound.serials h p is) sound.serials;
     named = λ key x at. let both = sound.named key x at in (dirs_set (take 32 key) both.0, grows x both.1);
+    beside = beside_grown k.nodes (insert k.nodes h changed) k.contents grows sound.beside;
     counted = by_place (IsCounted kept_set)
         (counted_same k kept_set h p changed refl kinds_set (links_set h) refl refl refl (sound.counted h p is))
         (λ q x at. counted_same k kept_set q x x refl kinds_set (links_set q) refl refl refl (sound.counted q x at));

@@ -20,7 +20,7 @@ use Rattle.path_server.proofs.ContentLaws.{dir_content}
 use Rattle.path_server.proofs.CountChanges.{len-remove_old, links-unnamed, let_go-linked, subdirs-remove, used-unnamed}
 use Rattle.path_store.proofs.NameLaws.{get-names_of}
 use Rattle.path_server.proofs.NamesWithout.{names_of-remove_same, names_of-remove_other}
-use Rattle.path_server.proofs.NamedLaws.{IsDirNode, leaf_is_no_dir, no_path}
+use Rattle.path_server.proofs.NamedLaws.{IsDirNode, beside_grown, leaf_is_no_dir, no_path}
 use Rattle.path_server.proofs.NodeLaws.{node_at-kept, node_here, kind_at, is_dir_kind, is_dir_at-kind, same_dirs}
 use Rattle.path_server.proofs.Recounted as recount
 use Rattle.path_server.proofs.Serials.{kept_fits}
@@ -186,6 +186,7 @@ module _ (limits : ServerLimits) (next bytes : ℕ) (k : Kept) (sound : IsSound 
     sound_less = record {
       serials = recount.serials_after k nodes' paths_less counts alike are next sound.serials;
       named = named_less;
+      beside = beside_grown k.nodes nodes' k.contents (recount.grows k nodes' paths_less counts alike are) sound.beside;
       counted = recount.each_after k nodes' paths_less counts alike are (IsCounted after) counted_less;
       bytes_used = let all = sound.bytes_used in let change = used_less in omega (arith, all, change);
       bytes_most = let most = sound.bytes_most in omega (arith, most);

@@ -8,7 +8,7 @@ use Rattle.nfs2_types.specs.declared.fattr.Kind.TheVariants.{File, Dir, Link}
 use Rattle.server_trait.specs.Tree.{Tree, Node, ByBytes, Content, BytesOf, TextOf, NamesOf, Names, node_at, links, names_to, used, used_by, edited, with_bytes, with_node}
 use Rattle.server_trait.specs.declared.server.ServerLimits.{ServerLimits}
 use Rattle.server_trait.proofs.CountLaws.{links-edited}
-use Rattle.server_trait.proofs.TreeLaws.{bytes_or_not, get-insert_same, get-insert_other, edited-some, used-edited, some_and}
+use Rattle.server_trait.proofs.TreeLaws.{some_none, bytes_or_not, get-insert_same, get-insert_other, edited-some, used-edited, some_and}
 use Rattle.path_server.specs.Bytes.{Contents, bytes_under, content_of, rewritten}
 use Rattle.path_server.specs.Kept.{Kept, kept_as, node_of, full_node, nodes_of, the_tree}
 use Rattle.path_store.specs.Stored.{names_of}
@@ -18,6 +18,7 @@ use Rattle.path_store.proofs.Rows.{bytes_exact}
 use Rattle.path_server.proofs.ContentLaws.{file_content, bytes-insert_same, bytes-insert_other}
 use Rattle.path_server.proofs.ByteLaws.{length-rewritten}
 use Rattle.path_server.proofs.CountedLaws.{counted_same}
+use Rattle.path_server.proofs.NamedLaws.{beside_changed}
 use Rattle.path_server.proofs.NodeLaws.{get-nodes_of, node_at-kept, node_here}
 use Rattle.path_server.proofs.SoundLaws.{few_bytes}
 
@@ -114,10 +115,12 @@ module _ (k : Kept) (h : List ℕ) (p : PathNode) (is : get k.nodes h ≡ Some p
 
     pub sound_changed : (limits : ServerLimits) (next bytes bytes' : ℕ) → IsSound limits next bytes k →
         bytes' + length old_bytes ≡ bytes + length (f old_bytes) → bytes' ≤ limits.bytes →
-        IsSound limits next bytes' after
-    sound_changed limits next bytes bytes' sound sum room = record {
+        ((q : List ℕ) → q ≢ h → get contents' q ≡ get k.contents q) → IsSound limits next bytes' after
+    sound_changed limits next bytes bytes' sound sum room stay = record {
       serials = sound.serials;
       named = sound.named;
+      beside = beside_changed k.nodes k.nodes k.contents contents' h stay sound.beside (λ q _ none. none)
+          (λ none. absurd (some_none is none));
       counted = λ q x at. counted_same k after q x x refl (λ _. refl) (links_changed q) refl refl refl (sound.counted
           q x at);
       bytes_used =
@@ -166,3 +169,5 @@ module _ (k : Kept) (h : List ℕ) (file : IsSomeAnd (get k.nodes h) (λ p. p.ki
         sound_changed k h kept_file.0 kept_file.1 kept_file.2 contents' (rewritten size offset piece) here others
         limits next bytes ((bytes - len) + size) sound
         (omega (arith, few, same, is_len, whole)) (omega (arith, room, same, is_len))
+        (λ q ne. ap (λ m. get m q) puts ∙ get-insert_other left h put q ne ∙ ap (λ m. get m q) leaves
+        ∙ get-insert_other k.contents h [] q ne)

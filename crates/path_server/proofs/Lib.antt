@@ -18,10 +18,16 @@ pub mod NameCallLaws
 pub mod NamedLaws
 pub mod NamesWithout
 pub mod NodeLaws
+pub mod NodeRows
+pub mod RebootLaws
 pub mod Recounted
+pub mod RekeyLaws
 pub mod RenameCalls
 pub mod RenameLaws
-pub mod Rows
 pub mod Serials
+pub mod ShownCalls
+pub mod ShownErrors
+pub mod ShownLaws
 pub mod SoundLaws
+pub mod StartLaws
 pub mod StoredLaws

@@ -19,7 +19,7 @@ use Rattle.path_server.specs.declared.node.PathNode.{PathNode}
 use Rattle.path_server.proofs.ContentLaws.{dir_content}
 use Rattle.path_server.proofs.CountChanges.{len-insert_new, used-named}
 use Rattle.path_store.proofs.NameLaws.{start_of, get-names_of, names_of-insert_same, names_of-insert_other}
-use Rattle.path_server.proofs.NamedLaws.{IsDirNode, some_is}
+use Rattle.path_server.proofs.NamedLaws.{IsDirNode, beside_grown, some_is}
 use Rattle.path_server.proofs.NodeLaws.{node_at-kept, node_here, kind_at, is_dir_kind, is_dir_at-kind, same_dirs}
 use Rattle.path_server.proofs.Recounted as recount
 use Rattle.path_server.proofs.Serials.{kept_fits}
@@ -175,6 +175,7 @@ module _ (limits : ServerLimits) (next bytes : ℕ) (k : Kept) (sound : IsSound 
   sound_more room = record {
     serials = recount.serials_after k nodes' paths_more counts alike are next sound.serials;
     named = named_more;
+    beside = beside_grown k.nodes nodes' k.contents (recount.grows k nodes' paths_more counts alike are) sound.beside;
     counted = recount.each_after k nodes' paths_more counts alike are (IsCounted after) counted_more;
     bytes_used = let all = sound.bytes_used in let change = used_more in omega (arith, all, change);
     bytes_most = room;

@@ -21,9 +21,9 @@ use Rattle.path_server.specs.Serials.{serial_bytes}
 use Rattle.path_server.specs.Sound.{IsSound, IsStored, AddsNode, IsCounted, AreSerials, AreNamed, AreCounted}
 use Rattle.path_server.specs.declared.node.PathNode.{PathNode}
 use Rattle.path_store.proofs.Rows.{bytes_exact}
-use Rattle.path_server.proofs.ContentLaws.{dir_content, fuller_content, its_names, names_to-new}
+use Rattle.path_server.proofs.ContentLaws.{bytes-same, dir_content, fuller_content, its_names, names_to-new}
 use Rattle.path_store.proofs.NameLaws.{start_of, get-names_of, names_of-insert_same, names_of-insert_other, names_of-none}
-use Rattle.path_server.proofs.NamedLaws.{IsDirNode, named_in, none_of, is_some_none, is_and_none}
+use Rattle.path_server.proofs.NamedLaws.{IsDirNode, beside_changed, none_before, named_in, none_of, is_some_none, is_and_none}
 use Rattle.path_server.proofs.NodeLaws.{get-nodes_of, node_at-kept, node_at-none, kept-node_at, node_here, kind_at, is_dir_kind, is_dir_at-kind, same_dirs}
 use Rattle.path_server.proofs.Recounted.{bytes_differ}
 use Rattle.path_server.proofs.StoredLaws.{stored_put, stored_new}
@@ -137,7 +137,7 @@ module _ (limits : ServerLimits) (next bytes : ℕ) (k : Kept) (sound : IsSound 
 
   node_other : (q : List ℕ) (x : PathNode) → q ≢ dir → q ≢ to → get k.nodes q ≡ Some x →
       full_node contents' paths_after q x ≡ full_node k.contents k.paths q x
-  node_other q x ne ne' e = ap (λ b. node_of x b (names_of paths_after q)) (added.others q ne')
+  node_other q x ne ne' e = ap (λ b. node_of x b (names_of paths_after q)) (bytes-same k.contents contents' q (added.others q ne'))
       ∙ ap (node_of x (bytes_under k.contents q)) (names_other q (kept_fits k.nodes next sound.serials q x e) ne)
 
   same_node : (q : List ℕ) → q ≢ dir → q ≢ to → option_map (full_node contents' paths_after q) (get k.nodes q) ≡
@@ -344,6 +344,9 @@ module _ (limits : ServerLimits) (next bytes : ℕ) (k : Kept) (sound : IsSound 
     serials = serials_after;
     named = named_after;
     counted = counted_after;
+    beside = beside_changed k.nodes nodes_after k.contents contents' to added.others sound.beside
+        (λ q _ none. none_before k.nodes nodes_after grows q none)
+        (λ none. absurd (some_none kept_to none));
     bytes_used = let all = sound.bytes_used in let change = used_after full in omega (arith, all, change);
     bytes_most = room;
     nodes_most = let size = len_after in omega (arith, size, node_room);

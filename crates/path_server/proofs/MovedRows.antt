@@ -12,7 +12,7 @@ use Rattle.path_server.specs.Movable.{CanMove}
 use Rattle.path_server.specs.Nodes.{one_less}
 use Rattle.path_server.specs.State.{kept_by}
 use Rattle.path_server.specs.declared.node.PathNode.{PathNode}
-use Rattle.path_server.specs.declared.server.PathServer.{PathServer}
+use Rattle.path_server.specs.declared.tree.PathTree.{PathTree}
 use Rattle.path_server.proofs.DirLaws.{grows}
 use Rattle.path_server.proofs.NamedLaws.{IsDirNode, some_is, is_some_none}
 use Rattle.path_server.proofs.RenameLaws.{Moving}
@@ -33,7 +33,7 @@ module _ (es fs : List (List ℕ × PathNode)) (h : List ℕ) (v w : PathNode) (
       put)) ∙ none)
 
 -- what is known once the first directory was put in anew and the second was read
-pub moving : (s : PathServer) {from name to to_name h : List ℕ} {kind : Kind} → s.held ≡ true →
+pub moving : (s : PathTree) {from name to to_name h : List ℕ} {kind : Kind} → s.held ≡ true →
     CanMove (kept_by s) from name to to_name h kind → (p v into : PathNode) (fs : List (List ℕ × PathNode)) →
     (get (kept_by s).nodes from ≡ Some p) × (p.kind ≡ Dir) → v ≡ one_less kind p →
     fs ≡ insert_entry (slice_cmp nat_cmp) s.nodes.entries from v → get (from_entries {R = slice_cmp nat_cmp} fs) to ≡ Some

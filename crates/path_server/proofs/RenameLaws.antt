@@ -20,7 +20,7 @@ use Rattle.path_server.proofs.ContentLaws.{dir_content}
 use Rattle.path_server.proofs.CountChanges.{len-insert_new, len-insert_old, len-remove_old, subdirs-remove, links-unnamed, used-unnamed, used-named}
 use Rattle.path_server.proofs.DirLaws.{HasOtherNames, by_place, grows, other_names}
 use Rattle.path_store.proofs.NameLaws.{get-names_of, names_of-insert_same, names_of-insert_other, start_of}
-use Rattle.path_server.proofs.NamedLaws.{IsDirNode, dir_same}
+use Rattle.path_server.proofs.NamedLaws.{IsDirNode, beside_grown, dir_same}
 use Rattle.path_server.proofs.NamesWithout.{names_of-remove_same, names_of-remove_other}
 use Rattle.path_server.proofs.NodeLaws.{node_at-kept, node_here, kind_at, is_dir_kind, is_dir_at-kind, same_dirs}
 use Rattle.path_server.proofs.Serials.{kept_fits}
@@ -256,6 +256,7 @@ module _ (limits : ServerLimits) (next bytes : ℕ) (k : Kept) (sound : IsSound 
     sound_after = record {
       serials = moved.serials;
       named = named_after;
+      beside = beside_grown k.nodes after.nodes k.contents stays sound.beside;
       counted = λ q x at.
           let s = moved.sized q x at in
           record { names = s.names; subdirs = s.subdirs; links = linked q x at ∙ sym (links_after q) };

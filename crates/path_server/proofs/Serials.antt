@@ -1,5 +1,5 @@
 -- Handles that are serial numbers.
-use Rattle.std.proofs.Common.{◌≡◌, ℕ, ◌<◌, ◌^◌, List, length, take, Some, None, refl, sym, ap, ◌∙◌, arith}
+use Rattle.std.proofs.Common.{◌≡◌, ℕ, ◌<◌, ◌^◌, List, length, take, drop, Some, None, refl, sym, ap, ◌∙◌, arith}
 use Rattle.std.specs.Int.{w64, from_be_bytes}
 use Rattle.std.proofs.lemmas.Nat.{from_be_bytes-to_be_bytes_8}
 use Rattle.std.specs.FinMap.{get}
@@ -12,12 +12,12 @@ pub length-serial_bytes : (n : ℕ) → length (serial_bytes n) ≡ 32
 unfolding serial_bytes
 length-serial_bytes n = refl
 
-serial_back : (n : ℕ) → n < 2 ^ 64 → from_be_bytes w64 (take 8 (serial_bytes n)) ≡ n
+serial_back : (n : ℕ) → n < 2 ^ 64 → from_be_bytes w64 (take 8 (drop 8 (serial_bytes n))) ≡ n
 unfolding serial_bytes
 serial_back n fits = from_be_bytes-to_be_bytes_8 n fits
 
 same_serial : (a b : ℕ) → a < 2 ^ 64 → b < 2 ^ 64 → serial_bytes a ≡ serial_bytes b → a ≡ b
-same_serial a b fits fits' e = sym (serial_back a fits) ∙ ap (λ l. from_be_bytes w64 (take 8 l)) e ∙ serial_back b fits'
+same_serial a b fits fits' e = sym (serial_back a fits) ∙ ap (λ l. from_be_bytes w64 (take 8 (drop 8 l))) e ∙ serial_back b fits'
 
 module _ (nodes : ByBytes PathNode) (next : ℕ) (serials : AreSerials nodes next) where
   pub kept_fits : (h : List ℕ) (p : PathNode) → get nodes h ≡ Some p → length h ≡ 32

@@ -23,7 +23,7 @@ content_of Link bytes names = TextOf bytes
 -- a new node got its bytes, unless it is a directory
 pub record IsAdded (kind : Kind) (h bytes : List ℕ) (old new : Contents) : Type 0 where
   pub here : (names : Names) → content_of kind (bytes_under new h) names ≡ content_of kind bytes names
-  pub others : (q : List ℕ) → q ≢ h → bytes_under new q ≡ bytes_under old q
+  pub others : (q : List ℕ) → q ≢ h → get new q ≡ get old q
 
 -- bytes of another size, with a piece at an offset
 abbrev pub rewritten : ℕ → ℕ → List ℕ → List ℕ → List ℕ

@@ -3,14 +3,14 @@ use Rattle.std.specs.Prelude.{◌≤◌, IfSome, max}
 use Rattle.std.specs.FinMap.{len, from_entries}
 use Rattle.server_trait.specs.Tree.{Tree, Server, used}
 use Rattle.path_server.specs.Kept.{Kept, kept_as, tree_of}
-use Rattle.path_server.specs.declared.server.PathServer.{PathServer}
+use Rattle.path_server.specs.declared.tree.PathTree.{PathTree}
 
 -- what it keeps
-abbrev pub kept_by : PathServer → Kept
+abbrev pub kept_by : PathTree → Kept
 kept_by s = kept_as s.root (from_entries s.nodes.entries) s.contents s.names.names
 
 -- its tree, its limits, and no faults
-abbrev pub state_of : PathServer → Server
+abbrev pub state_of : PathTree → Server
 state_of s = record { tree = tree_of s.held (kept_by s); limits = s.limits; faults = 0 }
 
 -- its tree is within its limits, but for the root

@@ -4,7 +4,9 @@
 mod contents;
 mod laws;
 mod node;
+mod rows;
 mod server;
+mod tree;
 
 pub use laws::{no_faults, within_limits};
 pub use server::PathServer;

@@ -3,6 +3,7 @@
 ghost use Rattle.std.specs.Prelude.{◌≡◌, ◌+◌, ◌<◌, ◌≤◌, ◌^◌};
 ghost use Rattle.server_trait.specs.Tree.{one_if};
 ghost use Rattle.path_server.specs.Serials.{serial_bytes};
+ghost use Rattle.path_server.specs.Shown.{shown_at};
 
 use nfs2_types::{Handle, Kind};
 
@@ -108,12 +109,28 @@ impl PathNode {
     }
 }
 
-/// The handle of a serial number: its eight bytes, the most significant first, and zeros.
+/// The handle of a serial number inside: zeros, its eight bytes, the most significant first, and zeros.
 #[tactic(auto, unfolding(crate::specs::Serials::serial_bytes))]
 pub fn handle_of(serial: u64) -> Handle
     ensures { result ≡ serial_bytes serial }
 {
     let mut handle = [0; 32];
-    handle[..8].copy_from_slice(&serial.to_be_bytes());
+    handle[8..16].copy_from_slice(&serial.to_be_bytes());
     handle
+}
+
+/// The handle that is shown after so many starts, from the one inside, and the other way.
+#[tactic(auto, unfolding(crate::specs::Shown::shown_at))]
+pub fn shown(starts: u64, handle: &Handle) -> Handle
+    ensures { result ≡ shown_at starts handle.now }
+{
+    let inside = [0; 8];
+    let number = starts.to_be_bytes();
+    let mut other = *handle;
+    if handle[..8] == inside[..] {
+        other[..8].copy_from_slice(&number);
+    } else if handle[..8] == number[..] {
+        other[..8].copy_from_slice(&inside);
+    }
+    other
 }

@@ -1,54 +1,25 @@
-//! The server.
+//! The server: a tree under handles that are others after each start.
 
-ghost use Rattle.std.specs.Prelude.{◌≡◌, ◌≤◌, ◌+◌, ◌-◌, ◌++◌, ◌<◌, true, false, IfOk, OnOk, OnErr, Some, None, IsSomeAnd, length};
-ghost use Rattle.std.proofs.Props.{props};
-ghost use Rattle.std.specs.FinMap.{get, len, empty, from_entries};
-ghost use Rattle.nfs2_types.specs.Names.{is_name};
-ghost use Rattle.nfs2_types.specs.declared.fattr.Kind.TheVariants.{File, Dir};
-ghost use Rattle.server_trait.specs.Tree.{used_by, size_of, links_of, edited, with_bytes};
-ghost use Rattle.server_trait.specs.Step.{HasTree};
-ghost use Rattle.server_trait.specs.Calls.{IsFresh, Made, Make};
-ghost use Rattle.path_server.specs.Bytes.{bytes_under, content_of, rewritten};
-ghost use Rattle.path_server.specs.Kept.{IsFound, IsFoundDir, full_node, kept_as, the_tree};
-ghost use Rattle.path_server.specs.Sound.{IsSound, IsStored, AddsNode};
-ghost use Rattle.path_store.specs.Stored.{IsDir, IsUnnamed};
+ghost use Rattle.std.specs.Prelude.{◌≡◌, ◌≤◌, IfOk, OnOk};
+ghost use Rattle.server_trait.specs.Calls.{IsFresh, Reboot};
+ghost use Rattle.path_server.specs.Shown.{NoneStays, shown_at};
 
-use crate::contents::{PathContents, rewrite};
-use crate::node::{PathNode, handle_of};
-use nfs2_types::{Handle, Kind, NoMemory};
-use path_store::PathStore;
-use server_trait::{FileServer, ServerLimits, SrvErr};
+use crate::node::shown;
+use crate::rows::show_rows;
+use crate::tree::PathTree;
+use nfs2_types::{Handle, NoMemory};
+use server_trait::{FileServer, Listed, NodeAttr, ServerLimits, SrvErr};
 use std::alloc::Global;
-use std::collections::BTreeMap;
 
-mod calls;
-mod names;
-mod rename;
-
-/// A tree in memory, under handles that are serial numbers, which go on after a wipe. It never answers Fault, and Full
-/// only where the tree would pass its limits.
+/// A server that keeps its tree in memory. Handles are serial numbers, which go on after a wipe, behind the number of
+/// starts. It never answers Fault, and Full only where the tree would pass its limits.
 #[derive(Drop)]
 pub struct PathServer {
-    alloc: Global,
-    limits: ServerLimits,
-    held: bool,
-    root: Handle,
-    next: u64,
-    bytes: u64,
-    nodes: BTreeMap<Handle, PathNode>,
-    contents: PathContents,
-    names: PathStore,
-    ghost limited: { limits.bytes ≤ 1073741824 },
-    ghost sound: { held ≡ true
-        → IsSound limits next bytes
-        (kept_as root (from_entries nodes.entries) contents names.names) } by { Prim.hlevel props },
-    ghost stored: { held ≡ true
-        → IsStored (from_entries nodes.entries) names } by { Prim.hlevel props },
+    tree: PathTree,
+    starts: u64,
 }
 
 impl PathServer {
-    ghost use Rattle.path_server.specs.State.{kept_by, state_of};
-
     /// A server with an empty root. Errors: NoMemory.
     pub fn new(alloc: Global, limits: ServerLimits) -> Result<PathServer, NoMemory>
         requires { limits.bytes ≤ 1073741824 }
@@ -56,233 +27,147 @@ impl PathServer {
         ensures limits { IfOk result (λ s. (⟦<PathServer as FileServer>⟧.state s).limits ≡ limits) }
         ensures faults { IfOk result (λ s. (⟦<PathServer as FileServer>⟧.state s).faults ≡ 0) }
     {
-        let root = [0; 32];
-        let names = PathStore::new(alloc, &root)?;
-        let mut server = PathServer {
-            alloc,
-            limits,
-            held: false,
-            root,
-            next: 0,
-            bytes: 0,
-            nodes: BTreeMap::new(alloc),
-            contents: PathContents::new(alloc),
-            names,
-        };
-        server.start()?;
-        Ok(server)
+        let tree = PathTree::new(alloc, limits)?;
+        Ok(PathServer { tree, starts: 0 })
     }
 
-    /// Starts afresh with an empty root. Without memory there is no tree.
-    fn start(&mut self) -> Result<(), NoMemory>
-        ensures ok { OnOk result (IsFresh (state_of self.new).tree) }
-        ensures err { OnErr result (self.new.held ≡ false) }
-        ensures limits { self.new.limits ≡ self.old.limits }
+    /// The handle inside of one that is shown, and the other way.
+    fn shown(&self, handle: &Handle) -> Handle
+        ensures { result ≡ shown_at self.now.starts handle.now }
     {
-        self.held = false;
-        // A server never lasts until its serial numbers are spent; then it would answer NoMemory.
-        let Some(next) = self.next.checked_add(1) else {
-            return Err(NoMemory);
-        };
-        self.root = handle_of(self.next);
-        let Ok(names) = PathStore::new(self.alloc, &self.root) else {
-            return Err(NoMemory);
-        };
-        self.names = names;
-        self.contents = PathContents::new(self.alloc);
-        self.nodes.clear();
-        let root = PathNode::new(Kind::Dir, self.next, 0);
-        let Ok(_) = self.nodes.insert(self.root, root) else {
-            return Err(NoMemory);
-        };
-        self.next = next;
-        self.bytes = 0;
-        self.held = true;
-        Ok(())
-    }
-
-    /// What is kept of a node of this kind. Errors: Stale, WrongKind.
-    fn find(&self, node: &Handle, kind: Kind) -> Result<PathNode, SrvErr>
-        ensures { IsFound (kept_by self.now).nodes node.now kind result }
-    {
-        match self.nodes.get(node).copied() {
-            Some(kept) if kept.kind == kind => Ok(kept),
-            Some(_) => Err(SrvErr::WrongKind),
-            None => Err(SrvErr::Stale),
-        }
-    }
-
-    /// What is kept of a directory. Errors: Stale, NotDir.
-    fn find_dir(&self, dir: &Handle) -> Result<PathNode, SrvErr>
-        ensures { IsFoundDir (kept_by self.now).nodes dir.now result }
-    {
-        match self.nodes.get(dir).copied() {
-            Some(kept) if kept.kind == Kind::Dir => Ok(kept),
-            Some(_) => Err(SrvErr::NotDir),
-            None => Err(SrvErr::Stale),
-        }
-    }
-
-    /// Makes a node of a new name, where there is room. Without memory there is no tree.
-    fn add_node(
-        &mut self,
-        dir: &Handle,
-        kept: PathNode,
-        name: &[u8],
-        kind: Kind,
-        bytes: &[u8],
-    ) -> Result<Handle, NoMemory>
-        requires held { self.old.held ≡ true }
-        requires kept { get (kept_by self.old).nodes dir.now ≡ Some kept }
-        requires is_dir { kept.kind ≡ Dir }
-        requires name { is_name name.now ≡ true }
-        requires new_name { get self.old.names.names (dir.now ++ name.now) ≡ None }
-        requires nodes { len (kept_by self.old).nodes < self.old.limits.nodes }
-        requires bytes { used_by (content_of kind bytes.now empty) ≡ length bytes.now }
-        requires room { self.old.bytes + (512 + length bytes.now) ≤ self.old.limits.bytes }
-        ensures ok { IfOk result (λ h. Made (the_tree (kept_by self.old)) dir.now name.now
-            (content_of kind bytes.now empty) h (state_of self.new).tree) }
-        ensures err { OnErr result (self.new.held ≡ false) }
-        ensures limits { self.new.limits ≡ self.old.limits }
-    {
-        self.held = false;
-        // A server never lasts until its serial numbers are spent; then it would answer NoMemory.
-        let Some(next) = self.next.checked_add(1) else {
-            return Err(NoMemory);
-        };
-        let handle = handle_of(self.next);
-        add_new(&mut self.names, dir, name, &handle, kind)?;
-        self.contents.add(self.alloc, &handle, kind, bytes)?;
-        let node = PathNode::new(kind, self.next, 1);
-        let Ok(_) = self.nodes.insert(handle, node) else {
-            return Err(NoMemory);
-        };
-        let Ok(_) = self.nodes.insert(*dir, kept.with_name(kind)) else {
-            return Err(NoMemory);
-        };
-        self.next = next;
-        self.bytes += 512 + bytes.len() as u64;
-        self.held = true;
-        Ok(handle)
-    }
-
-    /// Makes a node of a kind with these bytes. Errors: Stale, NotDir, Exists, Full, NoMemory.
-    fn make(
-        &mut self,
-        dir: &Handle,
-        name: &[u8],
-        kind: Kind,
-        bytes: &[u8],
-    ) -> Result<Handle, SrvErr>
-        requires tree { HasTree (state_of self.old) }
-        requires name { is_name name.now ≡ true }
-        requires bytes { used_by (content_of kind bytes.now empty) ≡ length bytes.now }
-        requires few { length bytes.now ≤ 1024 }
-        ensures { Make (content_of kind bytes.now empty) (length bytes.now)
-            (state_of self.old) dir.now name.now result (state_of self.new) }
-    {
-        let kept = self.find_dir(dir)?;
-        match self.names.get(dir, name) {
-            Ok(None) => self.make_new(dir, kept, name, kind, bytes),
-            Ok(Some(_)) => Err(SrvErr::Exists),
-            Err(_) => {
-                self.held = false;
-                Err(SrvErr::NoMemory)
-            }
-        }
-    }
-
-    /// Makes a node of a new name, of a kind with these bytes. Errors: Full, NoMemory.
-    fn make_new(
-        &mut self,
-        dir: &Handle,
-        kept: PathNode,
-        name: &[u8],
-        kind: Kind,
-        bytes: &[u8],
-    ) -> Result<Handle, SrvErr>
-        requires held { self.old.held ≡ true }
-        requires kept { get (kept_by self.old).nodes dir.now ≡ Some kept }
-        requires is_dir { kept.kind ≡ Dir }
-        requires name { is_name name.now ≡ true }
-        requires new_name { get self.old.names.names (dir.now ++ name.now) ≡ None }
-        requires bytes { used_by (content_of kind bytes.now empty) ≡ length bytes.now }
-        requires few { length bytes.now ≤ 1024 }
-        ensures { Make (content_of kind bytes.now empty) (length bytes.now)
-            (state_of self.old) dir.now name.now result (state_of self.new) }
-    {
-        let more = 512 + bytes.len() as u64;
-        if self.nodes.len() >= self.limits.nodes as usize || self.bytes + more > self.limits.bytes {
-            return Err(SrvErr::Full);
-        }
-        match self.add_node(dir, kept, name, kind, bytes) {
-            Ok(handle) => Ok(handle),
-            Err(_) => Err(SrvErr::NoMemory),
-        }
-    }
-
-    /// Gives a file another size and puts a piece at an offset, where there is room. Without memory there is no tree.
-    fn change(
-        &mut self,
-        file: &Handle,
-        size: usize,
-        offset: usize,
-        piece: &[u8],
-    ) -> Result<(), NoMemory>
-        requires held { self.old.held ≡ true }
-        requires file { IsSomeAnd (get (kept_by self.old).nodes file.now) (λ p. p.kind ≡ File) }
-        requires end { offset + length piece.now ≤ size }
-        requires room { (self.old.bytes - length (bytes_under self.old.contents file.now)) + size
-            ≤ self.old.limits.bytes }
-        ensures ok { OnOk result ((state_of self.new).tree
-            ≡ Some (edited (the_tree (kept_by self.old)) file.now (with_bytes (rewritten size offset piece.now)))) }
-        ensures err { OnErr result (self.new.held ≡ false) }
-        ensures limits { self.new.limits ≡ self.old.limits }
-    {
-        self.held = false;
-        let mut bytes = self.contents.take(self.alloc, file)?;
-        let len = bytes.len();
-        rewrite(&mut bytes, size, offset, piece)?;
-        self.contents.insert(*file, bytes)?;
-        self.bytes = self.bytes - len as u64 + size as u64;
-        self.held = true;
-        Ok(())
-    }
-
-    /// The size and the links of a node.
-    fn size_and_links(&self, node: &Handle, kept: PathNode) -> (u32, u32)
-        requires held { self.now.held ≡ true }
-        requires kept { get (kept_by self.now).nodes node.now ≡ Some kept }
-        ensures size { result.0 ≡ size_of
-            (full_node self.now.contents self.now.names.names node.now kept).content }
-        ensures links { result.1 ≡ links_of (the_tree (kept_by self.now)) node.now
-            (full_node self.now.contents self.now.names.names node.now kept).content }
-    {
-        match kept.kind {
-            Kind::Dir => (kept.names, kept.subdirs),
-            Kind::File | Kind::Link => (self.contents.get(node).len() as u32, kept.links),
-        }
+        shown(self.starts, handle)
     }
 }
 
-/// Makes a new name of a directory lead to a new node of a kind.
-fn add_new(
-    names: &mut PathStore,
-    dir: &Handle,
-    name: &[u8],
-    to: &Handle,
-    kind: Kind,
-) -> Result<(), NoMemory>
-    requires whole { names.old.whole ≡ true }
-    requires dir { IsDir names.old dir.now }
-    requires name { is_name name.now ≡ true }
-    requires new_name { get names.old.names (dir.now ++ name.now) ≡ None }
-    requires no_dir { get names.old.dirs to.now ≡ None }
-    requires unnamed { IsUnnamed names.old to.now }
-    ensures added { OnOk result (AddsNode kind names.old dir.now name.now to.now names.new) }
-{
-    match kind {
-        Kind::Dir => names.add_dir(dir, name, to),
-        Kind::File | Kind::Link => names.add(dir, name, to),
+impl FileServer for PathServer {
+    ghost use Rattle.path_server.specs.Started.{shown_by};
+
+    ghost state = { shown_by };
+
+    fn limits(&self) -> ServerLimits {
+        self.tree.limits()
+    }
+
+    fn root(&self) -> Handle {
+        let root = self.tree.root();
+        self.shown(&root)
+    }
+
+    fn attr(&mut self, node: &Handle) -> Result<NodeAttr, SrvErr> {
+        let node = self.shown(node);
+        self.tree.attr(&node)
+    }
+
+    fn set_attr(&mut self, node: &Handle, mode: u32, uid: u32, gid: u32) -> Result<(), SrvErr> {
+        let node = self.shown(node);
+        self.tree.set_attr(&node, mode, uid, gid)
+    }
+
+    fn read(&mut self, file: &Handle, offset: u32, count: u32) -> Result<Vec<u8>, SrvErr> {
+        let file = self.shown(file);
+        self.tree.read(&file, offset, count)
+    }
+
+    fn read_link(&mut self, link: &Handle) -> Result<Vec<u8>, SrvErr> {
+        let link = self.shown(link);
+        self.tree.read_link(&link)
+    }
+
+    fn write(&mut self, file: &Handle, offset: u32, piece: &[u8]) -> Result<u32, SrvErr> {
+        let file = self.shown(file);
+        self.tree.write(&file, offset, piece)
+    }
+
+    fn set_size(&mut self, file: &Handle, size: u32) -> Result<(), SrvErr> {
+        let file = self.shown(file);
+        self.tree.set_size(&file, size)
+    }
+
+    fn lookup(&mut self, dir: &Handle, name: &[u8]) -> Result<Handle, SrvErr> {
+        let dir = self.shown(dir);
+        match self.tree.lookup(&dir, name) {
+            Ok(node) => Ok(self.shown(&node)),
+            Err(e) => Err(e),
+        }
+    }
+
+    fn list(&mut self, dir: &Handle) -> Result<Vec<Listed>, SrvErr> {
+        let dir = self.shown(dir);
+        match self.tree.list(&dir) {
+            Ok(mut rows) => {
+                show_rows(self.starts, &mut rows);
+                Ok(rows)
+            }
+            Err(e) => Err(e),
+        }
+    }
+
+    fn create(&mut self, dir: &Handle, name: &[u8]) -> Result<Handle, SrvErr> {
+        let dir = self.shown(dir);
+        match self.tree.create(&dir, name) {
+            Ok(node) => Ok(self.shown(&node)),
+            Err(e) => Err(e),
+        }
+    }
+
+    fn mkdir(&mut self, dir: &Handle, name: &[u8]) -> Result<Handle, SrvErr> {
+        let dir = self.shown(dir);
+        match self.tree.mkdir(&dir, name) {
+            Ok(node) => Ok(self.shown(&node)),
+            Err(e) => Err(e),
+        }
+    }
+
+    fn symlink(&mut self, dir: &Handle, name: &[u8], text: &[u8]) -> Result<Handle, SrvErr> {
+        let dir = self.shown(dir);
+        match self.tree.symlink(&dir, name, text) {
+            Ok(node) => Ok(self.shown(&node)),
+            Err(e) => Err(e),
+        }
+    }
+
+    fn link(&mut self, node: &Handle, dir: &Handle, name: &[u8]) -> Result<(), SrvErr> {
+        let node = self.shown(node);
+        let dir = self.shown(dir);
+        self.tree.link(&node, &dir, name)
+    }
+
+    fn remove(&mut self, dir: &Handle, name: &[u8]) -> Result<(), SrvErr> {
+        let dir = self.shown(dir);
+        self.tree.remove(&dir, name)
+    }
+
+    fn rmdir(&mut self, dir: &Handle, name: &[u8]) -> Result<(), SrvErr> {
+        let dir = self.shown(dir);
+        self.tree.rmdir(&dir, name)
+    }
+
+    fn rename(
+        &mut self,
+        from: &Handle,
+        name: &[u8],
+        to: &Handle,
+        to_name: &[u8],
+    ) -> Result<(), SrvErr> {
+        let from = self.shown(from);
+        let to = self.shown(to);
+        self.tree.rename(&from, name, &to, to_name)
+    }
+
+    fn reboot(&mut self) -> Result<(), SrvErr>
+        ensures rebooted { Reboot (shown_by self.old) result (shown_by self.new) }
+        ensures stale { OnOk result (NoneStays (shown_by self.old).tree (shown_by self.new).tree) }
+    {
+        // A server never lasts until its starts are spent; then it would answer NoMemory.
+        let Some(starts) = self.starts.checked_add(1) else {
+            self.tree.give_up();
+            return Err(SrvErr::NoMemory);
+        };
+        self.starts = starts;
+        Ok(())
+    }
+
+    fn wipe(&mut self) -> Result<(), SrvErr> {
+        self.tree.wipe()
     }
 }

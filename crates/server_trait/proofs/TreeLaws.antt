@@ -123,7 +123,7 @@ pub edited-some : (t : Tree) (h : List ℕ) (f : Node → Node) (n : Node) → n
 unfolding edited
 edited-some t h f n is = ap (λ o. let kept : Tree = record t { nodes = elim o as (λ _. ByBytes Node) [ None ↦ t.nodes | Some n ↦ insert t.nodes h (f n) ] } in kept) is
 
-edited-none : (t : Tree) (h : List ℕ) (f : Node → Node) → node_at t h ≡ None → edited t h f ≡ t
+pub edited-none : (t : Tree) (h : List ℕ) (f : Node → Node) → node_at t h ≡ None → edited t h f ≡ t
 unfolding edited
 edited-none t h f is = ap (λ o. let kept : Tree = record t { nodes = elim o as (λ _. ByBytes Node) [ None ↦ t.nodes | Some n ↦ insert t.nodes h (f n) ] } in kept) is
 

@@ -1,5 +1,5 @@
 use Rattle.std.proofs.Common.{Some, None, ◌∙◌}
-use Rattle.path_server.proofs.Rows.{bytes-filled_rows}
+use Rattle.path_server.proofs.NodeRows.{bytes-filled_rows}
 use Rattle.path_server.proofs.contents.PathContents.get.Goals as goal
 
 pub returns-in-Some : goal.returns-in-Some

@@ -1,4 +1,4 @@
-use Rattle.path_server.proofs.Rows.{remove-filled_rows}
+use Rattle.path_server.proofs.NodeRows.{remove-filled_rows}
 use Rattle.path_server.proofs.contents.PathContents.remove.Goals as goal
 
 pub returns : goal.returns

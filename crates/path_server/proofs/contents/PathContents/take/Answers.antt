@@ -1,6 +1,6 @@
 use Rattle.std.proofs.Common.{Some, None, [], sym, ◌∙◌}
 use Rattle.path_store.proofs.Rows.{insert-filled_rows}
-use Rattle.path_server.proofs.Rows.{bytes-filled_rows}
+use Rattle.path_server.proofs.NodeRows.{bytes-filled_rows}
 use Rattle.path_server.proofs.contents.PathContents.take.Goals as goal
 
 pub returns-in-Ok-Some-clause-bytes : goal.returns-in-Ok-Some-clause-bytes

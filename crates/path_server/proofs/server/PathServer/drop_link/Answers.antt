@@ -1,4 +1,0 @@
-use Rattle.path_server.proofs.server.PathServer.drop_link.Goals as goal
-
-pub drop_node-requires-clause-bare : goal.drop_node-requires-clause-bare
-drop_node-requires-clause-bare c is_dir = absurd (c.requires.node.1 is_dir)

@@ -1,0 +1,12 @@
+use Rattle.path_server.specs.Shown.{shown_at}
+use Rattle.path_server.specs.State.{state_of}
+use Rattle.path_server.proofs.StartLaws.{shown_twice}
+use Rattle.path_server.proofs.ShownCalls.{link_told}
+use Rattle.path_server.proofs.server.PathServerFileServer.link.Goals as goal
+
+pub returns : goal.returns
+returns c =
+    let s = c.args.self.now in
+    link_told (shown_at s.starts) (shown_twice s.starts) (state_of s.tree) (state_of c.link.new.self)
+    c.shown-dir.result c.args.dir.now c.shown-dir.ensures c.args.name.now
+    c.shown-node.result c.args.node.now c.shown-node.ensures c.link.result c.link.ensures

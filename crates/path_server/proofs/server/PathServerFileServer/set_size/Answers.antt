@@ -1,0 +1,11 @@
+use Rattle.path_server.specs.Shown.{shown_at}
+use Rattle.path_server.specs.State.{state_of}
+use Rattle.path_server.proofs.StartLaws.{shown_twice}
+use Rattle.path_server.proofs.ShownCalls.{set_size_told}
+use Rattle.path_server.proofs.server.PathServerFileServer.set_size.Goals as goal
+
+pub returns : goal.returns
+returns c =
+    let s = c.args.self.now in
+    set_size_told (shown_at s.starts) (shown_twice s.starts) (state_of s.tree) (state_of c.set_size.new.self)
+    c.shown-file.result c.args.file.now c.shown-file.ensures c.args.size c.set_size.result c.set_size.ensures
