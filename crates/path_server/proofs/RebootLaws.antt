@@ -1,12 +1,13 @@
 -- After another start the tree is the same under other handles.
-use Rattle.std.proofs.Common.{◌≡◌, ◌≢◌, ℕ, ◌+◌, ◌≤◌, ◌<◌, ◌^◌, Bool, true, List, ◌++◌, take, replicate, Option, Some, None, is_some, IfSome, IsSome, IsSomeAnd, Ok, refl, sym, ap, ◌∙◌, subst, arith, take_at}
+use Rattle.std.proofs.Common.{◌≡◌, ◌≢◌, ℕ, ◌+◌, ◌≤◌, ◌<◌, ◌^◌, Bool, true, List, ◌++◌, take, replicate, Option, Some, None, is_some, IfSome, IsSome, IsSomeAnd, Result, Ok, refl, sym, ap, ◌∙◌, subst, arith, take_at}
 use Rattle.std.specs.Prelude.{max}
 use Rattle.std.specs.Option.{option_map}
 use Rattle.std.specs.Int.{w64, to_be_bytes}
 use Rattle.std.specs.FinMap.{get, len}
 use Rattle.server_trait.specs.Tree.{Tree, Node, Names, Content, BytesOf, TextOf, NamesOf, Server, node_at, names_in, used}
-use Rattle.server_trait.specs.Step.{OnlySoft, Called}
+use Rattle.server_trait.specs.Step.{HasTree, OnlySoft, Called}
 use Rattle.server_trait.specs.Calls.{IsMovedContent, IsMovedNode, IsMovedTree, Rebooted, Reboot}
+use Rattle.server_trait.specs.declared.server.SrvErr.{SrvErr}
 use Rattle.server_trait.specs.declared.server.ServerLimits.{ServerLimits}
 use Rattle.server_trait.proofs.TreeLaws.{is_some_and, some_none}
 use Rattle.server_trait.proofs.SoftLaws.{some_of}
@@ -96,6 +97,14 @@ module _ (a b : ℕ) where
     limits = refl;
     faults = refl;
   }
+
+-- a server that had a tree has one after it has started anew
+pub still_there : (old new : Server) (r : Result (Unit {0}) SrvErr) (x : Unit {0}) → HasTree old → Reboot old r new →
+    r ≡ Ok x → HasTree new
+still_there old new r x there c is =
+    let t = some_of old.tree there in
+    let again : Reboot old (Ok x) new = subst (λ r. Reboot old r new) is c in
+    ap is_some ((again.tree t.0 t.1).0.has_tree)
 
 -- OLD HANDLES
 

@@ -1,9 +1,9 @@
 -- A store after a name was added.
-use Rattle.std.proofs.Common.{◌⊎◌, inl, inr, ◌≡◌, ◌≢◌, ℕ, Bool, true, false, List, [], ◌++◌, length, Some, None, IsSome, refl, sym, ap, ap₂, ◌∙◌, subst}
+use Rattle.std.proofs.Common.{◌⊎◌, inl, inr, ◌≡◌, ◌≢◌, ℕ, Bool, true, false, List, [], ◌++◌, length, Some, None, IsSome, is_some, refl, sym, ap, ap₂, ◌∙◌, subst}
 use Rattle.std.specs.FinMap.{get, insert}
 use Rattle.slab.specs.Slab.{get as slot}
 use Rattle.nfs2_types.specs.Names.{is_name}
-use Rattle.server_trait.proofs.TreeLaws.{bytes_or_not, get-insert_same, get-insert_other, some_same, some_none}
+use Rattle.server_trait.proofs.TreeLaws.{bytes_or_not, one_or_not, get-insert_same, get-insert_other, some_same, some_none}
 use Rattle.server_trait.proofs.SoftLaws.{some_of}
 use Rattle.path_store.specs.Stored.{Stored, Paths, joined, with_name, IsDir, IsUnnamed, AddsDir}
 use Rattle.path_store.specs.Placed.{Keys, Rows, Dirs, row_at, has_slash, last_part, names_in, stored_as, IsRowAt, IsKeyed, IsPlaced}
@@ -66,6 +66,14 @@ module _ (keys : Keys) (rows : Rows) (path : List ℕ) (row : PathRow) (new_keys
         | inl f ↦ absurd (new_key q k (sym (key_other q ne) ∙ is) (some_same is' (ap (get new_keys) f ∙ key_here)))
         | inr nf ↦ keyed.once q p k (sym (key_other q ne) ∙ is) (sym (key_other p nf) ∙ is')
       ]
+    ];
+    used = λ k there. elim (one_or_not k put.key) as (λ _. (q : List ℕ) × (get new_keys q ≡ Some k)) [
+      | inl e ↦ (path, key_here ∙ ap Some (sym e))
+      | inr ne ↦
+          let before : IsSome (slot rows k) = ap is_some (sym (put.rows_are.others k ne)) ∙ there in
+          let q = keyed.used k before in
+          let r = some_of (slot rows k) before in
+          (q.0, key_other q.0 (λ e. some_none (sym (ap (row_at keys rows) e) ∙ row_of_key keys rows q.0 k q.1 ∙ r.1) free) ∙ q.1)
     ];
   }
 

@@ -1,5 +1,5 @@
 -- What the calls of a store answer and leave, from what it keeps.
-use Rattle.std.proofs.Common.{inl, inr, ◌≡◌, ◌↔◌, ℕ, Bool, true, false, if◌then◌else◌, List, [], ◌∷◌, ◌++◌, length, drop, Option, Some, None, IsSome, is_some, option_map, refl, sym, ap, ◌∙◌, subst}
+use Rattle.std.proofs.Common.{inl, inr, ◌≡◌, ◌↔◌, ℕ, Bool, true, false, if◌then◌else◌, List, [], ◌∷◌, ◌++◌, length, drop, Option, Some, None, IsSome, is_some, slice_index_or, option_map, refl, sym, ap, ◌∙◌, subst}
 use Rattle.std.specs.FinMap.{get, insert, empty, get-empty}
 use Rattle.std.specs.Ordering.{nat_cmp}
 use Rattle.std.specs.Cmp.Lexicographic.{slice_cmp}
@@ -22,15 +22,16 @@ use Rattle.path_store.proofs.SlashLaws.{name_no_slash}
 
 -- A NEW STORE
 
-pub started : (root : List ℕ) (keys : Keys) (rows : Rows) (dirs : Dirs) → keys ≡ empty → dirs ≡ insert empty root [] →
-    length root ≡ 32 →
+pub started : (root : List ℕ) (keys : Keys) (rows : Rows) (dirs : Dirs) → keys ≡ empty → rows.slots ≡ [] →
+    dirs ≡ insert empty root [] → length root ≡ 32 →
     IsPlaced keys rows dirs × (stored_as true keys rows dirs ≡ only_root root)
-started root keys rows dirs no_keys dirs_are fits = (
+started root keys rows dirs no_keys no_rows dirs_are fits = (
   record {
     keyed = record {
       has_row = λ path key is. absurd (no_key path key is);
       once = λ path other key is _. absurd
           (no_key path key is);
+      used = λ key there. absurd (let bad : true ≡ false = sym there ∙ ap (λ l. is_some (slice_index_or l key None)) no_rows in cc);
     };
     tree = record {
       placed = λ path row is. absurd (no_row path row is);

@@ -1,5 +1,5 @@
 -- A store after a name has moved, with all that lies under it.
-use Rattle.std.proofs.Common.{◌⊎◌, inl, inr, ◌≡◌, ◌≢◌, ℕ, true, false, List, [], ◌∷◌, ◌++◌, length, Some, IsSome, option_map, refl, sym, ap, ◌∙◌}
+use Rattle.std.proofs.Common.{◌⊎◌, inl, inr, ◌≡◌, ◌≢◌, ℕ, true, false, List, [], ◌∷◌, ◌++◌, length, Some, IsSome, is_some, option_map, refl, sym, ap, ◌∙◌}
 use Rattle.std.specs.FinMap.{get, insert, remove}
 use Rattle.slab.specs.Slab.{get as slot}
 use Rattle.nfs2_types.specs.Names.{is_name}
@@ -97,6 +97,12 @@ module _ (keys : Keys) (rows : Rows) (dirs : Dirs) (from name to to_name moved t
         let y = key_back x k found in
         let y' = key_back z k found' in
         y.2 ∙ ap shift (ready.placed.keyed.once y.0 y'.0 k y.1 y'.1) ∙ sym y'.2;
+    used = λ k there. elim (one_or_not k moves.key) as (λ _. (x : List ℕ) × (get new_keys x ≡ Some k)) [
+      | inl e ↦ (shift old, key_along old moves.key moves.key_is ∙ ap Some (sym e))
+      | inr ne ↦
+          let q = ready.placed.keyed.used k (ap is_some (sym (moves.rows_are.others k ne)) ∙ there) in
+          (shift q.0, key_along q.0 k q.1)
+    ];
   }
 
   -- rows lead to where they led

@@ -1,9 +1,9 @@
 -- A store after a name was removed.
-use Rattle.std.proofs.Common.{◌≡◌, ◌≢◌, ℕ, Bool, true, List, [], ◌++◌, Some, None, IsSome, refl, sym, ap, ◌∙◌, subst}
+use Rattle.std.proofs.Common.{inl, inr, is_some, ◌≡◌, ◌≢◌, ℕ, Bool, true, List, [], ◌++◌, Some, None, IsSome, refl, sym, ap, ◌∙◌, subst}
 use Rattle.std.specs.FinMap.{get, remove}
 use Rattle.slab.specs.Slab.{get as slot}
 use Rattle.nfs2_types.specs.Names.{is_name}
-use Rattle.server_trait.proofs.TreeLaws.{get-remove_same, get-remove_other, some_same, some_none}
+use Rattle.server_trait.proofs.TreeLaws.{one_or_not, get-remove_same, get-remove_other, some_same, some_none}
 use Rattle.server_trait.proofs.SoftLaws.{some_of}
 use Rattle.path_store.specs.Stored.{Stored, joined, IsDir, HasNoNames, Drops}
 use Rattle.path_store.specs.Placed.{Keys, Rows, Dirs, row_at, last_part, names_in, stored_as, IsRowAt, IsKeyed, IsPlaced}
@@ -51,6 +51,14 @@ module _ (keys : Keys) (rows : Rows) (path : List ℕ) (key : ℕ) (new_keys : K
         let ne : q ≢ path = λ e. some_none is (ap (get new_keys) e ∙ key_gone) in
         let ne' : p ≢ path = λ e. some_none is' (ap (get new_keys) e ∙ key_gone) in
         keyed.once q p k (sym (key_left q ne) ∙ is) (sym (key_left p ne') ∙ is');
+    used = λ k there. elim (one_or_not k key) as (λ _. (q : List ℕ) × (get new_keys q ≡ Some k)) [
+      | inl e ↦
+          let r = some_of (slot new_rows k) there in
+          absurd (some_none r.1 (ap (slot new_rows) e ∙ (take.rows_are key key_is).changed))
+      | inr ne ↦
+          let q = keyed.used k (ap is_some (sym ((take.rows_are key key_is).others k ne)) ∙ there) in
+          (q.0, key_left q.0 (λ e. ne (some_same q.1 (ap (get keys) e ∙ key_is))) ∙ q.1)
+    ];
   }
 
 module _ (keys : Keys) (rows : Rows) (dirs : Dirs) (dir name top to : List ℕ) (new_keys : Keys) (new_rows : Rows)

@@ -1,6 +1,6 @@
 //! New names, and names that go.
 
-ghost use Rattle.std.specs.Prelude.{◌≡◌, ◌++◌, true, Some, None, OnOk};
+ghost use Rattle.std.specs.Prelude.{◌≡◌, ◌++◌, true, false, Some, None, OnOk, OnErr};
 ghost use Rattle.std.specs.FinMap as map;
 ghost use Rattle.nfs2_types.specs.Names.{is_name};
 ghost use Rattle.path_store.specs.Stored.{with_name, IsDir, IsUnnamed, HasNoNames, AddsDir, Drops};
@@ -18,6 +18,7 @@ impl PathStore {
         requires new_name { map.get self.old.names (dir.now ++ name.now) ≡ None }
         requires no_dir { map.get self.old.dirs to.now ≡ None }
         ensures added { OnOk result (self.new ≡ with_name self.old dir.now name.now to.now) }
+        ensures err { OnErr result (self.new.whole ≡ false) }
     {
         self.whole = false;
         let Ok(path) = self.dirs.path_of(self.alloc, dir, name) else {
@@ -40,6 +41,7 @@ impl PathStore {
         requires no_dir { map.get self.old.dirs to.now ≡ None }
         requires unnamed { IsUnnamed self.old to.now }
         ensures added { OnOk result (AddsDir self.old dir.now name.now to.now self.new) }
+        ensures err { OnErr result (self.new.whole ≡ false) }
     {
         self.whole = false;
         let Ok(path) = self.dirs.path_of(self.alloc, dir, name) else {
@@ -68,6 +70,7 @@ impl PathStore {
         requires leads { map.get self.old.names (dir.now ++ name.now) ≡ Some to.now }
         requires empty { HasNoNames self.old to.now }
         ensures dropped { OnOk result (Drops self.old dir.now name.now to.now self.new) }
+        ensures err { OnErr result (self.new.whole ≡ false) }
     {
         self.whole = false;
         let Ok(gone) = self.dirs.path_of(self.alloc, dir, name) else {

@@ -111,7 +111,7 @@ impl PathKeys {
         Ok(found)
     }
 
-    /// The names of a directory whose path this is, in the order of their bytes. Errors: NoMemory.
+    /// The names of a directory whose path this is. Errors: NoMemory.
     pub fn list(
         &self,
         alloc: Global,

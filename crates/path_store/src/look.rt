@@ -42,7 +42,7 @@ impl PathStore {
         Ok(target(&self.keys, &self.rows, path.as_slice()))
     }
 
-    /// The names of a directory, in the order of their bytes, with the handles to which they lead. Its cost is in the
+    /// The names of a directory, with the handles to which they lead. Its cost is in the
     /// number of all names under the directory. Errors: NoMemory.
     pub fn list(&self, dir: &Handle) -> Result<Vec<Listed>, NoMemory>
         requires whole { self.now.whole ≡ true }

@@ -1,6 +1,6 @@
 //! Names that move.
 
-ghost use Rattle.std.specs.Prelude.{◌≡◌, ◌++◌, true, Some, None, OnOk, IsSome, map as each};
+ghost use Rattle.std.specs.Prelude.{◌≡◌, ◌++◌, true, false, Some, None, OnOk, OnErr, IsSome, map as each};
 ghost use Rattle.std.specs.FinMap as map;
 ghost use Rattle.slab.specs.Slab.{get as slot};
 ghost use Rattle.nfs2_types.specs.Names.{is_name};
@@ -132,6 +132,7 @@ impl PathStore {
         requires new_name { map.get self.old.names (to.now ++ to_name.now) ≡ None }
         requires apart { IsDir self.old moved.now → IsAtOrBelow self.old.names moved.now to.now → ⊥ }
         ensures moved { OnOk result (Moves self.old from.now name.now to.now to_name.now moved.now self.new) }
+        ensures err { OnErr result (self.new.whole ≡ false) }
     {
         self.whole = false;
         let Ok(old) = self.dirs.path_of(self.alloc, from, name) else {

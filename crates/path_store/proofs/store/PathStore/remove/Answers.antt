@@ -9,12 +9,11 @@ invariant_of-self-2 c = λ _. (removed c.args.dir.now c.args.name.now c.args.to.
     c.self.invariant c.requires.name (λ top is. c.as_slice.ensures.value ∙ c.in-Ok.ensures top is) c.take_row.ensures
     c.remove.ensures c.self.view_is c.requires.whole c.requires.dir c.requires.leads c.requires.empty).0
 
-pub returns : goal.returns
-returns c = record {
-  dropped = (removed c.args.dir.now c.args.name.now c.args.to.now c.as_slice.result.now c.self.inside.keys
-      c.self.inside.rows
-      c.self.inside.dirs c.take_row.new.keys c.take_row.new.rows c.remove.new.self c.self.inside.whole c.args.self.now
-      c.self.invariant c.requires.name (λ top is. c.as_slice.ensures.value ∙ c.in-Ok.ensures top is)
-      c.take_row.ensures
-      c.remove.ensures c.self.view_is c.requires.whole c.requires.dir c.requires.leads c.requires.empty).1;
-}
+pub returns-clause-dropped : goal.returns-clause-dropped
+returns-clause-dropped c =
+    (removed c.args.dir.now c.args.name.now c.args.to.now c.as_slice.result.now c.self.inside.keys
+    c.self.inside.rows
+    c.self.inside.dirs c.take_row.new.keys c.take_row.new.rows c.remove.new.self c.self.inside.whole c.args.self.now
+    c.self.invariant c.requires.name (λ top is. c.as_slice.ensures.value ∙ c.in-Ok.ensures top is)
+    c.take_row.ensures
+    c.remove.ensures c.self.view_is c.requires.whole c.requires.dir c.requires.leads c.requires.empty).1

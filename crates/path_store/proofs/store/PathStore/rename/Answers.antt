@@ -22,15 +22,14 @@ invariant_of-self-2 c = λ _. (renamed c.args.from.now c.args.name.now c.args.to
     (λ top is. c.as_slice-2.ensures.value ∙ c.in-Ok-path_of.ensures top is) c.in-Ok-move_under.ensures c.requires.from
     c.requires.to c.requires.leads c.requires.new_name c.requires.apart).0
 
-pub returns : goal.returns
-returns c = record {
-  moved = (renamed c.args.from.now c.args.name.now c.args.to.now c.args.to_name.now c.args.moved.now
-      c.as_slice.result.now
-      c.as_slice-2.result.now c.self.inside.keys c.self.inside.rows c.self.inside.dirs c.move_under.new.keys
-      c.move_under.new.rows c.move_under.new.dirs c.self.inside.whole c.args.self.now c.self.view_is c.self.invariant
-      c.requires.whole c.requires.name c.requires.to_name (λ top is. c.as_slice.ensures.value
-      ∙ c.in-Ok.ensures top is)
-      (λ top is. c.as_slice-2.ensures.value ∙ c.in-Ok-path_of.ensures top is) c.in-Ok-move_under.ensures
-      c.requires.from
-      c.requires.to c.requires.leads c.requires.new_name c.requires.apart).1;
-}
+pub returns-clause-moved : goal.returns-clause-moved
+returns-clause-moved c =
+    (renamed c.args.from.now c.args.name.now c.args.to.now c.args.to_name.now c.args.moved.now
+    c.as_slice.result.now
+    c.as_slice-2.result.now c.self.inside.keys c.self.inside.rows c.self.inside.dirs c.move_under.new.keys
+    c.move_under.new.rows c.move_under.new.dirs c.self.inside.whole c.args.self.now c.self.view_is c.self.invariant
+    c.requires.whole c.requires.name c.requires.to_name (λ top is. c.as_slice.ensures.value
+    ∙ c.in-Ok.ensures top is)
+    (λ top is. c.as_slice-2.ensures.value ∙ c.in-Ok-path_of.ensures top is) c.in-Ok-move_under.ensures
+    c.requires.from
+    c.requires.to c.requires.leads c.requires.new_name c.requires.apart).1
