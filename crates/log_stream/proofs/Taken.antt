@@ -13,14 +13,16 @@ Consumes-none None = tt
 Consumes-none (Some xs) = refl
 
 -- one after the other
-pub Consumes-then : (old mid new : Option (List ℕ)) (a b : List ℕ) → Consumes old mid a → Consumes mid new b → Consumes old new (a ++ b)
+pub Consumes-then : (old mid new : Option (List ℕ)) (a b : List ℕ) → Consumes old mid a → Consumes mid new b →
+    Consumes old new (a ++ b)
 Consumes-then None mid new a b p q = tt
 Consumes-then (Some xs) None new a b p q = absurd p
 Consumes-then (Some xs) (Some ys) None a b p q = absurd q
 Consumes-then (Some xs) (Some ys) (Some zs) a b p q = p ∙ ap (λ (t : List ℕ). a ++ t) q ∙ sym (append_assoc a b zs)
 
 -- a call that takes nothing
-pub Consumes-keeps : (old mid new : Option (List ℕ)) (a : List ℕ) → Consumes old mid a → Keeps mid new → Consumes old new a
+pub Consumes-keeps : (old mid new : Option (List ℕ)) (a : List ℕ) → Consumes old mid a → Keeps mid new →
+    Consumes old new a
 Consumes-keeps None mid new a p q = tt
 Consumes-keeps (Some xs) None new a p q = absurd p
 Consumes-keeps (Some xs) (Some ys) None a p q = absurd q
@@ -33,28 +35,42 @@ pub record Filling (old left : Option (List ℕ)) (buf : List ℕ) (filled : ℕ
   pub consumed : Consumes old left (take filled buf)
   pub within : filled ≤ length buf
 
-pub filling_more : (old mid new : Option (List ℕ)) (buf got : List ℕ) (filled count : ℕ) → Filling old mid buf filled → length got ≡ length buf - filled → count ≤ length got
-    → Consumes mid new (take count got) → Filling old new (put_mid filled (length buf - filled) buf got) (filled + count)
+pub filling_more : (old mid new : Option (List ℕ)) (buf got : List ℕ) (filled count : ℕ) → Filling old mid buf filled →
+    length got ≡ length buf - filled → count ≤ length got
+    → Consumes mid new (take count got) → Filling old new (put_mid filled (length buf - filled) buf got)
+        (filled + count)
 filling_more old mid new buf got filled count f len le q =
     let front : length (take filled buf) ≡ filled = length-take-le filled buf f.within in
-    let past : drop (length buf - filled) (drop filled buf) ≡ [] = drop_all (length buf - filled) (drop filled buf) (omega (arith, length-drop filled buf)) in
-    let whole : put_mid filled (length buf - filled) buf got ≡ take filled buf ++ got = ap (λ (t : List ℕ). take filled buf ++ (got ++ t)) past ∙ ap (λ (t : List ℕ). take filled buf ++ t) (append-nil got) in
-    let taken : take (filled + count) (put_mid filled (length buf - filled) buf got) ≡ take filled buf ++ take count got = ap (take (filled + count)) whole ∙ subst (λ (n : ℕ). take (n + count) (take filled buf ++ got) ≡ take filled buf ++ take count got) front (take-append-add (take filled buf) got count) in
+    let past : drop (length buf - filled) (drop filled buf) ≡ [] = drop_all (length buf - filled) (drop filled buf)
+        (omega (arith, length-drop filled buf)) in
+    let whole : put_mid filled (length buf - filled) buf got ≡ take filled buf
+        ++ got = ap (λ (t : List ℕ). take filled buf ++ (got ++ t)) past
+        ∙ ap (λ (t : List ℕ). take filled buf ++ t) (append-nil got) in
+    let taken : take (filled + count) (put_mid filled (length buf - filled) buf got) ≡ take filled buf
+        ++ take count got = ap (take (filled + count)) whole
+        ∙ subst (λ (n : ℕ). take (n + count) (take filled buf ++ got) ≡ take filled buf ++ take count got) front
+        (take-append-add (take filled buf) got count) in
     record {
       consumed = rw taken (Consumes-then old mid new (take filled buf) (take count got) f.consumed q);
       within = rw whole (omega (arith, length-append (take filled buf) got));
     }
 
-pub fills_all : {X : Type 0} (old left : Option (List ℕ)) (buf : List ℕ) (filled : ℕ) (x : X) → Filling old left buf filled → length buf ≤ filled → Fills old left buf (Ok x)
-fills_all old left buf filled x f le = record { taken = take filled buf; consumed = f.consumed; outcome = take_all filled buf le }
+pub fills_all : {X : Type 0} (old left : Option (List ℕ)) (buf : List ℕ) (filled : ℕ) (x : X) →
+    Filling old left buf filled → length buf ≤ filled → Fills old left buf (Ok x)
+fills_all old left buf filled x f le =
+    record { taken = take filled buf; consumed = f.consumed; outcome = take_all filled buf le }
 
 -- a part of a buffer that is written as a whole leaves its length
-length-put_part : (buf got : List ℕ) (filled : ℕ) → filled ≤ length buf → length got ≡ length buf - filled → length (put_mid filled (length buf - filled) buf got) ≡ length buf
+length-put_part : (buf got : List ℕ) (filled : ℕ) → filled ≤ length buf → length got ≡ length buf - filled →
+    length (put_mid filled (length buf - filled) buf got) ≡ length buf
 length-put_part buf got filled le len =
-    let past : drop (length buf - filled) (drop filled buf) ≡ [] = drop_all (length buf - filled) (drop filled buf) (omega (arith, length-drop filled buf)) in
-    rw past (omega (arith, length-append (take filled buf) (got ++ []), length-append got [], length-take-le filled buf le))
+    let past : drop (length buf - filled) (drop filled buf) ≡ [] = drop_all (length buf - filled) (drop filled buf)
+        (omega (arith, length-drop filled buf)) in
+    rw past (omega (arith, length-append (take filled buf) (got ++ []), length-append got [],
+        length-take-le filled buf le))
 
-pub fills_failed : {X : Type 0} (old mid left : Option (List ℕ)) (buf got : List ℕ) (filled : ℕ) → Filling old mid buf filled → filled < length buf → length got ≡ length buf - filled → Keeps mid left
+pub fills_failed : {X : Type 0} (old mid left : Option (List ℕ)) (buf got : List ℕ) (filled : ℕ) →
+    Filling old mid buf filled → filled < length buf → length got ≡ length buf - filled → Keeps mid left
     → Fills {X = X} old left (put_mid filled (length buf - filled) buf got) (Err Failed)
 fills_failed old mid left buf got filled f lt len k = record {
   taken = take filled buf;
@@ -62,12 +78,16 @@ fills_failed old mid left buf got filled f lt len k = record {
   outcome = omega (arith, length-take-le filled buf f.within, length-put_part buf got filled f.within len);
 }
 
-pub fills_short : {X : Type 0} (old mid left : Option (List ℕ)) (buf got : List ℕ) (filled count : ℕ) → Filling old mid buf filled → filled < length buf → length got ≡ length buf - filled → count ≡ 0
-    → Consumes mid left (take count got) × (count ≡ 0 → 0 < length got → IsAtEnd left) → Fills {X = X} old left (put_mid filled (length buf - filled) buf got) (Err Wrong)
+pub fills_short : {X : Type 0} (old mid left : Option (List ℕ)) (buf got : List ℕ) (filled count : ℕ) →
+    Filling old mid buf filled → filled < length buf → length got ≡ length buf - filled → count ≡ 0
+    → Consumes mid left (take count got) × (count ≡ 0 → 0 < length got → IsAtEnd left) →
+        Fills {X = X} old left (put_mid filled (length buf - filled) buf got) (Err Wrong)
 fills_short old mid left buf got filled count f lt len none q =
     let nothing : Consumes mid left [] = subst (λ (n : ℕ). Consumes mid left (take n got)) none q.0 in
     record {
       taken = take filled buf;
-      consumed = rw (← append-nil (take filled buf)) (Consumes-then old mid left (take filled buf) [] f.consumed nothing);
-      outcome = (omega (arith, length-take-le filled buf f.within, length-put_part buf got filled f.within len), q.1 none (omega arith));
+      consumed = rw (← append-nil (take filled buf))
+          (Consumes-then old mid left (take filled buf) [] f.consumed nothing);
+      outcome = (omega (arith, length-take-le filled buf f.within, length-put_part buf got filled f.within len),
+          q.1 none (omega arith));
     }

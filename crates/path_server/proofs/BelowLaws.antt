@@ -27,7 +27,8 @@ dir_of_names Link bytes names m is = absurd (some_none is refl)
 
 module _ (limits : ServerLimits) (next bytes : ℕ) (k : Kept) (sound : IsSound limits next bytes k) where
   -- a name leads on in the tree where it is kept so
-  leads_in : (h name x : List ℕ) → length h ≡ 32 → get k.paths (h ++ name) ≡ Some x → target (the_tree k) h name ≡ Some x
+  leads_in : (h name x : List ℕ) → length h ≡ 32 → get k.paths (h ++ name) ≡ Some x →
+      target (the_tree k) h name ≡ Some x
   leads_in h name x fits at =
       let p = some_and (get k.nodes h) IsDirNode (named_in k.nodes k.paths sound.named h name x fits at).0 in
       target_is limits next bytes k sound h p.0 p.1 p.2 name ∙ at

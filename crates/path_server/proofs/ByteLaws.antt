@@ -27,7 +27,8 @@ take_both (suc n) (x ∷ xs) ys =
 drop_both : {X : Type 0} (n : ℕ) (xs ys : List X) → drop n (xs ++ ys) ≡ drop n xs ++ drop (n - length xs) ys
 drop_both n [] ys = let same : n - 0 ≡ n = omega arith in ap (λ n. drop n ys) (sym same)
     ∙ ap (λ l. l ++ drop (n - 0) ys) (sym (drop_none n))
-drop_both zero (x ∷ xs) ys = let none : zero - length (x ∷ xs) ≡ 0 = omega arith in ap (λ n. x ∷ xs ++ drop n ys) (sym none)
+drop_both zero (x ∷ xs) ys = let none : zero - length (x ∷ xs) ≡ 0 = omega arith in
+    ap (λ n. x ∷ xs ++ drop n ys) (sym none)
 drop_both (suc n) (x ∷ xs) ys =
     let less : suc n - length (x ∷ xs) ≡ n - length xs = omega arith in
     drop_both n xs ys ∙ ap (λ m. drop n xs ++ drop m ys) (sym less)

@@ -28,7 +28,8 @@ use Rattle.path_server.proofs.NodeLaws.{len-nodes_of, node_at-kept, node_at-none
 use Rattle.path_server.proofs.SoundLaws.{fits, target_is, names_at-is}
 
 -- what holds of the tree that is held
-pub held_tree : (held : Bool) (t0 : Tree) (P : Tree → Type 0) → (held ≡ true → P t0) → (t : Tree) → cond held (Some t0) None ≡ Some t → P t
+pub held_tree : (held : Bool) (t0 : Tree) (P : Tree → Type 0) → (held ≡ true → P t0) → (t : Tree) →
+    cond held (Some t0) None ≡ Some t → P t
 held_tree true t0 P h t e = subst P (let same : Some t0 ≡ Some t = e in let one : t0 ≡ t = cc in one) (h refl)
 held_tree false t0 P h t e = absurd (let no : None ≡ Some t = e in cc)
 
@@ -45,7 +46,8 @@ found_error nodes h kind WrongKind f P stale other = other f
 found_error nodes h kind e f P stale other = absurd f
 
 pub found_dir_error : (nodes : ByBytes PathNode) (h : List ℕ) (e : SrvErr) → IsFoundDir nodes h (Err e) →
-    (P : SrvErr → Type 0) → (get nodes h ≡ None → P Stale) → (IsSomeAnd (get nodes h) (λ p. p.kind ≢ Dir) → P NotDir) → P e
+    (P : SrvErr → Type 0) → (get nodes h ≡ None → P Stale) → (IsSomeAnd (get nodes h) (λ p. p.kind ≢ Dir) → P NotDir) →
+        P e
 found_dir_error nodes h Stale f P stale other = stale f
 found_dir_error nodes h NotDir f P stale other = other f
 found_dir_error nodes h e f P stale other = absurd f
@@ -228,7 +230,8 @@ module _ (held : Bool) (limits : ServerLimits) (next bytes : ℕ) (k : Kept) (so
       where
         no_room : held ≡ true → (limits.nodes ≤ len k.nodes) ⊎ (limits.bytes < bytes + (512 + more)) →
             NoRoom limits now 1 0 (512 + more)
-        no_room there (inl nodes) = inl (let size = len-nodes_of k.nodes k.contents k.paths in omega (arith, nodes, size))
+        no_room there (inl nodes) = inl
+            (let size = len-nodes_of k.nodes k.contents k.paths in omega (arith, nodes, size))
         no_room there (inr most) = inr (let all = (sound there).bytes_used in omega (arith, most, all))
 
     -- with what the call has made

@@ -55,7 +55,8 @@ bare root = record { root = root; nodes = empty }
 
 used-none : (root : List ℕ) → used (bare root) ≡ 0
 unfolding used
-used-none root = total-none nat_list_cmp_total (λ (n : Node). used_by n.content) empty (λ k v at. absurd (some_none at (get-empty (slice_cmp nat_cmp) k)))
+used-none root = total-none nat_list_cmp_total (λ (n : Node). used_by n.content) empty
+    (λ k v at. absurd (some_none at (get-empty (slice_cmp nat_cmp) k)))
 
 links-bare : (root q : List ℕ) → links (bare root) q ≡ 0
 links-bare root q = links-none (bare root) q (λ named. let t = target_found (bare root) named.0 named.1 q named.2 in
@@ -97,13 +98,15 @@ module _ (number : ℕ) (contents : Contents) where
     | inl same ↦ subst (λ k. P k x) (sym same) (subst (P root) (let f : Some first_node ≡ Some x =
         sym (get-insert_same empty root first_node) ∙ ap (get kept_fresh.nodes) (sym same)
         ∙ e in let one : first_node ≡ x = cc in one) here)
-    | inr ne ↦ absurd (some_none (sym (get-insert_other empty root first_node q ne) ∙ e) (get-empty (slice_cmp nat_cmp) q))
+    | inr ne ↦ absurd (some_none (sym (get-insert_other empty root first_node q ne) ∙ e)
+        (get-empty (slice_cmp nat_cmp) q))
   ]
 
   used_fresh : used (the_tree kept_fresh) ≡ 0
   used_fresh =
       let same : used (the_tree kept_fresh) ≡ used fresh_tree = ap used tree_fresh in
-      let more = used-with_node (bare root) root (new_node number (NamesOf empty)) (get-empty (slice_cmp nat_cmp) root) in
+      let more = used-with_node (bare root) root (new_node number (NamesOf empty))
+          (get-empty (slice_cmp nat_cmp) root) in
       let none = len-empty (slice_cmp nat_cmp) (List ℕ) in
       let zero_used = used-none root in
       omega (arith, same, more, none, zero_used)
@@ -156,8 +159,10 @@ module _ (number : ℕ) (contents : Contents) where
             λ _. ap is_some (ap (get root_path) same ∙ get-insert_same empty root []),
           )
           | inr ne ↦ (
-            λ there. absurd (is_some_none there (get-insert_other empty root [] q ne ∙ get-empty (slice_cmp nat_cmp) q)),
-            λ there. absurd (is_and_none (get kept_fresh.nodes q) IsDirNode there (get-insert_other empty root first_node q
+            λ there. absurd (is_some_none there
+                (get-insert_other empty root [] q ne ∙ get-empty (slice_cmp nat_cmp) q)),
+            λ there. absurd (is_and_none (get kept_fresh.nodes q) IsDirNode there
+                (get-insert_other empty root first_node q
                 ne ∙ get-empty (slice_cmp nat_cmp) q)),
           )
         ];

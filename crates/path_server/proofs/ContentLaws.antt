@@ -14,26 +14,32 @@ use Rattle.path_server.specs.Bytes.{Contents, IsAdded, bytes_under, content_of}
 
 -- KINDS
 
-pub file_content : (kind : Kind) (bytes : List ℕ) (names : Names) → kind ≡ File → content_of kind bytes names ≡ BytesOf bytes
+pub file_content : (kind : Kind) (bytes : List ℕ) (names : Names) → kind ≡ File →
+    content_of kind bytes names ≡ BytesOf bytes
 file_content kind bytes names is = ap (λ kind. content_of kind bytes names) is
 
-pub dir_content : (kind : Kind) (bytes : List ℕ) (names : Names) → kind ≡ Dir → content_of kind bytes names ≡ NamesOf names
+pub dir_content : (kind : Kind) (bytes : List ℕ) (names : Names) → kind ≡ Dir →
+    content_of kind bytes names ≡ NamesOf names
 dir_content kind bytes names is = ap (λ kind. content_of kind bytes names) is
 
-pub link_content : (kind : Kind) (bytes : List ℕ) (names : Names) → kind ≡ Link → content_of kind bytes names ≡ TextOf bytes
+pub link_content : (kind : Kind) (bytes : List ℕ) (names : Names) → kind ≡ Link →
+    content_of kind bytes names ≡ TextOf bytes
 link_content kind bytes names is = ap (λ kind. content_of kind bytes names) is
 
-pub no_bytes : (kind : Kind) (bytes : List ℕ) (names : Names) → kind ≢ File → bytes_in (content_of kind bytes names) ≡ None
+pub no_bytes : (kind : Kind) (bytes : List ℕ) (names : Names) → kind ≢ File →
+    bytes_in (content_of kind bytes names) ≡ None
 no_bytes File bytes names ne = absurd (ne refl)
 no_bytes Dir bytes names ne = refl
 no_bytes Link bytes names ne = refl
 
-pub no_text : (kind : Kind) (bytes : List ℕ) (names : Names) → kind ≢ Link → text_in (content_of kind bytes names) ≡ None
+pub no_text : (kind : Kind) (bytes : List ℕ) (names : Names) → kind ≢ Link →
+    text_in (content_of kind bytes names) ≡ None
 no_text File bytes names ne = refl
 no_text Dir bytes names ne = refl
 no_text Link bytes names ne = absurd (ne refl)
 
-pub no_names : (kind : Kind) (bytes : List ℕ) (names : Names) → kind ≢ Dir → names_in (content_of kind bytes names) ≡ None
+pub no_names : (kind : Kind) (bytes : List ℕ) (names : Names) → kind ≢ Dir →
+    names_in (content_of kind bytes names) ≡ None
 no_names File bytes names ne = refl
 no_names Dir bytes names ne = absurd (ne refl)
 no_names Link bytes names ne = refl

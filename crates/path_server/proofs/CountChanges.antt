@@ -77,13 +77,15 @@ has o = elim o as (λ _. Bool) [ None ↦ false | Some m ↦ true ]
 
 -- BYTES
 
-module _ (t : Tree) (dir name : List ℕ) (n : Node) (m : Names) (is : node_at t dir ≡ Some n) (has_names : n.content ≡ NamesOf m) where
+module _ (t : Tree) (dir name : List ℕ) (n : Node) (m : Names) (is : node_at t dir ≡ Some n)
+    (has_names : n.content ≡ NamesOf m) where
   pub used-named : (h : List ℕ) → get m name ≡ None → used (named t dir name h) ≡ used t + 512
   used-named h none =
       let change = used-edited t dir (with_names (λ m. insert m name h)) n is in
       let before : used_by n.content ≡ 512 * len m = ap used_by has_names in
       let after : used_by (with_names (λ m. insert m name h) n).content ≡ 512 * len (insert m name h) =
-      ap (λ c. let x : Node = record n { content = c } in used_by (with_names (λ m. insert m name h) x).content) has_names in
+      ap (λ c. let x : Node = record n { content = c } in
+          used_by (with_names (λ m. insert m name h) x).content) has_names in
       let size = len-insert_new m name h none in
       omega (arith, change, before, after, size)
 
@@ -92,7 +94,8 @@ module _ (t : Tree) (dir name : List ℕ) (n : Node) (m : Names) (is : node_at t
       let change = used-edited t dir (with_names (λ m. remove m name)) n is in
       let before : used_by n.content ≡ 512 * len m = ap used_by has_names in
       let after : used_by (with_names (λ m. remove m name) n).content ≡ 512 * len (remove m name) =
-      ap (λ c. let x : Node = record n { content = c } in used_by (with_names (λ m. remove m name) x).content) has_names in
+      ap (λ c. let x : Node = record n { content = c } in
+          used_by (with_names (λ m. remove m name) x).content) has_names in
       let size = len-remove_old m name h leads in
       omega (arith, change, before, after, size)
 
@@ -115,7 +118,8 @@ module _ (h : List ℕ) where
   names_cost (TextOf x) = omega arith
   names_cost (NamesOf m) = let most = names_most m in let size = total-ones m in omega (arith, most, size)
 
-  sum_cost : {K : Type 0} (es : List (K × Node)) → 512 * sum_values (leading h) es ≤ sum_values (λ n. used_by n.content) es
+  sum_cost : {K : Type 0} (es : List (K × Node)) → 512 * sum_values (leading h) es ≤ sum_values
+      (λ n. used_by n.content) es
   sum_cost [] = omega arith
   sum_cost (e ∷ es) = let rest = sum_cost es in let here = names_cost e.1.content in omega (arith, rest, here)
 

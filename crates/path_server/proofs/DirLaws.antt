@@ -81,7 +81,8 @@ module _ (next : ℕ) (k : Kept) (serials : AreSerials k.nodes next) (dir : List
   -- THE TREE
 
   node_dir : full_node k.contents paths' dir changed ≡ new_dir
-  node_dir = ap (λ c. let n : Node = record { number = p.number; mode = p.mode; uid = p.uid; gid = p.gid; content = c } in n)
+  node_dir = ap (λ c. let n : Node =
+      record { number = p.number; mode = p.mode; uid = p.uid; gid = p.gid; content = c } in n)
       (fuller_content p.kind (bytes_under k.contents dir) (bytes_under k.contents dir) (names_of k.paths dir) (names_of
       paths' dir) f is_directory here)
 
@@ -90,7 +91,8 @@ module _ (next : ℕ) (k : Kept) (serials : AreSerials k.nodes next) (dir : List
   same_node q ne = elim (get k.nodes q) as (λ o. get k.nodes q ≡ o →
       option_map (full_node k.contents paths' q) o ≡ option_map (full_node k.contents k.paths q) o) [
         | None ↦ λ _. refl
-        | Some x ↦ λ e. ap (λ m. Some (node_of x (bytes_under k.contents q) m)) (others q (kept_fits k.nodes next serials
+        | Some x ↦ λ e. ap (λ m. Some (node_of x (bytes_under k.contents q) m))
+            (others q (kept_fits k.nodes next serials
             q x e) ne)
       ] refl
 

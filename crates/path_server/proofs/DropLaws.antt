@@ -35,7 +35,8 @@ less_if kind here there p = record p {
 }
 
 module _ (limits : ServerLimits) (next bytes : ℕ) (k : Kept) (sound : IsSound limits next bytes k)
-    (dir name : List ℕ) (p : PathNode) (is : get k.nodes dir ≡ Some p) (is_directory : p.kind ≡ Dir) (h : List ℕ) (leads :
+    (dir name : List ℕ) (p : PathNode) (is : get k.nodes dir ≡ Some p) (is_directory : p.kind ≡ Dir) (h : List ℕ)
+        (leads :
     get k.paths (dir ++ name) ≡ Some h) (x : PathNode) (at_h : get k.nodes h ≡ Some x) where
   abbrev paths_less : Paths
   paths_less = remove k.paths (dir ++ name)
@@ -100,7 +101,8 @@ module _ (limits : ServerLimits) (next bytes : ℕ) (k : Kept) (sound : IsSound 
         remove m name) names_dir names_other
 
     used_less : used (the_tree after) + 512 ≡ used now
-    used_less = ap (λ t. used t + 512) tree_less ∙ used-unnamed now dir name (node_here k dir p) names (node_at-kept k dir p
+    used_less = ap (λ t. used t + 512) tree_less ∙ used-unnamed now dir name (node_here k dir p) names
+        (node_at-kept k dir p
         is) old_content h name_old
 
     -- COUNTS
@@ -109,7 +111,8 @@ module _ (limits : ServerLimits) (next bytes : ℕ) (k : Kept) (sound : IsSound 
     kinds_less = recount.kinds_after k nodes' paths_less counts alike are
 
     links_less : (q : List ℕ) → links (the_tree after) q + one_if (bytes_eq h q) ≡ links now q
-    links_less q = ap (λ t. links t q + one_if (bytes_eq h q)) tree_less ∙ links-unnamed now dir name h (node_here k dir p)
+    links_less q = ap (λ t. links t q + one_if (bytes_eq h q)) tree_less
+        ∙ links-unnamed now dir name h (node_here k dir p)
         names q (node_at-kept k dir p is) old_content name_old
 
     subdirs_old : (m : Names) → subdirs (the_tree after) m ≡ subdirs now m
@@ -127,7 +130,8 @@ module _ (limits : ServerLimits) (next bytes : ℕ) (k : Kept) (sound : IsSound 
     names_count q y e true t =
         let same : dir ≡ q = (bytes_eq-Decides dir q).0 t in
         let count = (sound.counted q y e).names in
-        let size : len (names_of paths_less q) + 1 ≡ len (names_of k.paths q) = subst (λ q. len (names_of paths_less q) + 1 ≡
+        let size : len (names_of paths_less q) + 1 ≡ len (names_of k.paths q) = subst
+            (λ q. len (names_of paths_less q) + 1 ≡
         len (names_of k.paths q)) same (ap (λ m. len m + 1) names_dir ∙ len_names) in
         omega (arith, count, size)
     names_count q y e false f = (sound.counted q y e).names ∙ sym (ap len (names_other q (kept_fits k.nodes next
@@ -141,8 +145,10 @@ module _ (limits : ServerLimits) (next bytes : ℕ) (k : Kept) (sound : IsSound 
     subdirs_count q y e true t =
         let same : dir ≡ q = (bytes_eq-Decides dir q).0 t in
         let count = (sound.counted q y e).subdirs in
-        let size : subdirs (the_tree after) (names_of paths_less q) + one_if (is_dir x.kind) ≡ subdirs now (names_of k.paths
-        q) = subst (λ q. subdirs (the_tree after) (names_of paths_less q) + one_if (is_dir x.kind) ≡ subdirs now (names_of
+        let size : subdirs (the_tree after) (names_of paths_less q) + one_if (is_dir x.kind) ≡ subdirs now
+            (names_of k.paths
+        q) = subst (λ q. subdirs (the_tree after) (names_of paths_less q) + one_if (is_dir x.kind) ≡ subdirs now
+            (names_of
         k.paths q)) same (ap (λ m. subdirs (the_tree after) m + one_if (is_dir x.kind)) names_dir ∙ subdirs_dir) in
         omega (arith, count, size)
     subdirs_count q y e false f = (sound.counted q y e).subdirs ∙ sym (ap (subdirs (the_tree after)) (names_other q
@@ -168,7 +174,8 @@ module _ (limits : ServerLimits) (next bytes : ℕ) (k : Kept) (sound : IsSound 
     -- WHAT HOLDS AFTER
 
     named_less : AreNamed nodes' paths_less
-    named_less key to at = elim (bytes_or_not key (dir ++ name)) as (λ _. IsSomeAnd (get nodes' (take 32 key)) IsDirNode ×
+    named_less key to at = elim (bytes_or_not key (dir ++ name)) as
+        (λ _. IsSomeAnd (get nodes' (take 32 key)) IsDirNode ×
         IsSome (get nodes' to)) [
           | inl same ↦ absurd (some_none at (ap (get paths_less) same ∙ get-remove_same k.paths (dir ++ name)))
           | inr ne ↦
@@ -202,7 +209,8 @@ module _ (limits : ServerLimits) (next bytes : ℕ) (k : Kept) (sound : IsSound 
         λ there. recount.dir_after k nodes' paths_less counts alike are q ((stored.dirs q).0 ((dirs q).0 there)),
         λ there. (dirs q).1 ((stored.dirs q).1 (recount.dir_before k nodes' paths_less counts alike are q there)),
       );
-      once = recount.each_after k nodes' paths_less counts alike are (λ q y. y.kind ≡ Dir → y.links ≤ 1) (λ q y e is_dir. few
+      once = recount.each_after k nodes' paths_less counts alike are (λ q y. y.kind ≡ Dir → y.links ≤ 1)
+          (λ q y e is_dir. few
           y (bytes_eq h q) (stored.once q y e is_dir));
     }
       where
@@ -217,13 +225,17 @@ module _ (limits : ServerLimits) (next bytes : ℕ) (k : Kept) (sound : IsSound 
 
 -- the same, of what a server came to: the node is no directory, and keeps other names
 module _ (limits : ServerLimits) (next bytes : ℕ) (k : Kept) (sound : IsSound limits next bytes k)
-    (dir name : List ℕ) (p : PathNode) (is : get k.nodes dir ≡ Some p) (is_directory : p.kind ≡ Dir) (h : List ℕ) (leads :
+    (dir name : List ℕ) (p : PathNode) (is : get k.nodes dir ≡ Some p) (is_directory : p.kind ≡ Dir) (h : List ℕ)
+        (leads :
     get k.paths (dir ++ name) ≡ Some h) (x : PathNode) (at_h : get k.nodes h ≡ Some x) (other : x.kind ≢ Dir)
-    (nodes' : ByBytes PathNode) (is_nodes : nodes' ≡ insert (insert k.nodes dir (one_less x.kind p)) h (one_link_less x))
+    (nodes' : ByBytes PathNode)
+        (is_nodes : nodes' ≡ insert (insert k.nodes dir (one_less x.kind p)) h (one_link_less x))
     (store store' : Stored) (is_paths : k.paths ≡ store.names) (drops : Drops store dir name h store') where
-  are_dropped : (q : List ℕ) → get nodes' q ≡ option_map (less_if x.kind (bytes_eq dir q) (bytes_eq h q)) (get k.nodes q)
+  are_dropped : (q : List ℕ) → get nodes' q ≡ option_map (less_if x.kind (bytes_eq dir q) (bytes_eq h q))
+      (get k.nodes q)
   are_dropped q = ap (λ m. get m q) is_nodes ∙ recount.two_puts k.nodes dir h p (one_less x.kind p) x (one_link_less x)
-      (less_if x.kind) is at_h (λ same. other (ap (λ (p : PathNode). p.kind) (some_same at_h (ap (get k.nodes) same ∙ is))
+      (less_if x.kind) is at_h
+          (λ same. other (ap (λ (p : PathNode). p.kind) (some_same at_h (ap (get k.nodes) same ∙ is))
       ∙ is_directory)) refl refl (λ y. refl) q
 
   abbrev dropped : Kept
@@ -244,11 +256,13 @@ module _ (limits : ServerLimits) (next bytes : ℕ) (k : Kept) (sound : IsSound 
       omega (arith, left, same, more)))
 
   pub sound_dropped : IsSound limits next (bytes - 512) dropped
-  sound_dropped = subst (λ m. IsSound limits next (bytes - 512) (kept_as k.root nodes' k.contents m)) (sym names_dropped)
+  sound_dropped = subst (λ m. IsSound limits next (bytes - 512) (kept_as k.root nodes' k.contents m))
+      (sym names_dropped)
       (sound_less limits next bytes k sound dir name p is is_directory h leads x at_h nodes' are_dropped)
 
   pub stored_dropped : IsStored k.nodes store → IsStored nodes' store'
-  stored_dropped stored = stored_less limits next bytes k sound dir name p is is_directory h leads x at_h nodes' are_dropped
+  stored_dropped stored =
+      stored_less limits next bytes k sound dir name p is is_directory h leads x at_h nodes' are_dropped
       store store' stored drops.whole (λ q. (
         λ there. ap is_some (sym (dirs_same q)) ∙ there,
         λ there. ap is_some

@@ -55,7 +55,8 @@ module _ (held : Bool) (limits : ServerLimits) (next bytes : ℕ) (k : Kept) (so
 
   pub read-err : (offset count : ℕ) (e : SrvErr) → IsFound k.nodes h File (Err e) →
       Read the_server h offset count (Err e) the_server
-  read-err offset count e found = found_error k.nodes h File e found (λ e. Read the_server h offset count (Err e) the_server)
+  read-err offset count e found = found_error k.nodes h File e found
+      (λ e. Read the_server h offset count (Err e) the_server)
       (λ is. record { tree = told_stale held limits next bytes k sound h is; limits = refl; faults = refl })
       (λ is. record { tree = told_no_file is; limits = refl; faults = refl })
 
@@ -71,7 +72,8 @@ module _ (held : Bool) (limits : ServerLimits) (next bytes : ℕ) (k : Kept) (so
       (λ is. record { tree = told_stale held limits next bytes k sound h is; limits = refl; faults = refl })
       (λ is. record { tree = told_no_file is; limits = refl; faults = refl })
 
-  pub set_size-err : (size : ℕ) (e : SrvErr) → IsFound k.nodes h File (Err e) → SetSize the_server h size (Err e) the_server
+  pub set_size-err : (size : ℕ) (e : SrvErr) → IsFound k.nodes h File (Err e) →
+      SetSize the_server h size (Err e) the_server
   set_size-err size e found = found_error k.nodes h File e found (λ e. SetSize the_server h size (Err e) the_server)
       (λ is. record { tree = told_stale held limits next bytes k sound h is; limits = refl; faults = refl })
       (λ is. record { tree = told_no_file is; limits = refl; faults = refl })
@@ -176,7 +178,8 @@ module _ (held : Bool) (limits : ServerLimits) (next bytes : ℕ) (k : Kept) (so
         tree = held_tree held now (λ t. (new ≡ Some (edited t h (with_bytes (resized size)))) × OnlySoft (SetSizeErr
             limits h size t)) (λ there. (
               made ∙ ap Some (same_change k h p is.0 is.1 (rewritten size 0 []) (resized size) refl),
-              set_size_soft limits now h (bytes_under k.contents h) size (bytes_at-is limits next bytes k (sound there) h
+              set_size_soft limits now h (bytes_under k.contents h) size
+                  (bytes_at-is limits next bytes k (sound there) h
                   p is.0 is.1),
             ));
         limits = same;

@@ -58,7 +58,8 @@ module _ (k : Kept) (h : List ℕ) (p : PathNode) (is : get k.nodes h ≡ Some p
       ∙ ap (λ (c : Content). let n : Node = record old_file { content = c } in with_node now h n)
       (ap (λ (c : Content). let n : Node = record old_file { content = c } in (with_bytes f n).content) old_content
       ∙ ap BytesOf same
-      ∙ sym (ap (λ (c : Content). let n : Node = record old_file { content = c } in (with_bytes g n).content) old_content))
+      ∙ sym (ap (λ (c : Content). let n : Node = record old_file { content = c } in
+          (with_bytes g n).content) old_content))
       ∙ sym (edited-some now h (with_bytes g) old_file at_now)
 
   module _ (contents' : Contents) (f : List ℕ → List ℕ) (here : bytes_under contents' h ≡ f old_bytes) (others : (q :
@@ -107,7 +108,8 @@ module _ (k : Kept) (h : List ℕ) (p : PathNode) (is : get k.nodes h ≡ Some p
 
     links_changed : (q : List ℕ) → links (the_tree after) q ≡ links now q
     links_changed q =
-        let same : links (the_tree after) q ≡ links (edited now h (with_bytes f)) q = ap (λ t. links t q) tree_changed in
+        let same : links (the_tree after) q ≡ links (edited now h (with_bytes f)) q = ap
+            (λ t. links t q) tree_changed in
         let change = links-edited now h (with_bytes f) old_file q at_now in
         let before : names_to q old_file.content ≡ 0 = ap (names_to q) old_content in
         let then : names_to q changed.content ≡ 0 = ap (names_to q) new_content in
@@ -152,7 +154,8 @@ module _ (k : Kept) (h : List ℕ) (file : IsSomeAnd (get k.nodes h) (λ p. p.ki
 
   pub tree_rewritten : the_tree (kept_as k.root k.nodes contents' k.paths) ≡ edited (the_tree k) h (with_bytes
       (rewritten size offset piece))
-  tree_rewritten = tree_changed k h kept_file.0 kept_file.1 kept_file.2 contents' (rewritten size offset piece) here others
+  tree_rewritten = tree_changed k h kept_file.0 kept_file.1 kept_file.2 contents'
+      (rewritten size offset piece) here others
 
   module _ (limits : ServerLimits) (next bytes : ℕ) (sound : IsSound limits next bytes k) (len : ℕ) (is_len : len ≡
       length taken) where

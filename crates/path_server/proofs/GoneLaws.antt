@@ -26,8 +26,10 @@ use Rattle.path_server.proofs.SoundLaws.{target_is}
 
 module _ (limits : ServerLimits) (next bytes : ℕ) (k : Kept) (sound : IsSound limits next bytes k) (h : List ℕ) (x :
     PathNode) (at_h : get k.nodes h ≡ Some x) (unnamed : x.links ≡ 0) (bare : x.kind ≡ Dir → names_of k.paths h ≡ empty)
-    (nodes' : ByBytes PathNode) (gone : get nodes' h ≡ None) (others : (q : List ℕ) → q ≢ h → get nodes' q ≡ get k.nodes q)
-    (contents' : Contents) (same_bytes : (q : List ℕ) → q ≢ h → bytes_under contents' q ≡ bytes_under k.contents q) where
+    (nodes' : ByBytes PathNode) (gone : get nodes' h ≡ None)
+        (others : (q : List ℕ) → q ≢ h → get nodes' q ≡ get k.nodes q)
+    (contents' : Contents)
+        (same_bytes : (q : List ℕ) → q ≢ h → bytes_under contents' q ≡ bytes_under k.contents q) where
   abbrev after : Kept
   after = kept_as k.root nodes' contents' k.paths
 
@@ -89,7 +91,8 @@ module _ (limits : ServerLimits) (next bytes : ℕ) (k : Kept) (sound : IsSound 
       node_at less q) [
         | inl same ↦ subst (λ q. node_at (the_tree after) q ≡ node_at less q) (sym same) (node_at-none after h gone
             ∙ sym (get-remove_same now.nodes h))
-        | inr ne ↦ get-nodes_of nodes' contents' k.paths q ∙ ap (option_map (full_node contents' k.paths q)) (others q ne)
+        | inr ne ↦ get-nodes_of nodes' contents' k.paths q
+            ∙ ap (option_map (full_node contents' k.paths q)) (others q ne)
             ∙ full_same q ne (get k.nodes q)
             ∙ sym (get-remove_other now.nodes h q ne ∙ get-nodes_of k.nodes k.contents k.paths q)
       ])
@@ -167,7 +170,8 @@ module _ (limits : ServerLimits) (next bytes : ℕ) (k : Kept) (sound : IsSound 
       | inr ne ↦ (
         λ there. subst (λ o. IsSomeAnd o IsDirNode) (sym (others q ne)) ((stored.dirs q).0 (ap is_some (sym (dirs_same q
             ne)) ∙ there)),
-        λ there. ap is_some (dirs_same q ne) ∙ (stored.dirs q).1 (subst (λ o. IsSomeAnd o IsDirNode) (others q ne) there),
+        λ there. ap is_some (dirs_same q ne) ∙ (stored.dirs q).1
+            (subst (λ o. IsSomeAnd o IsDirNode) (others q ne) there),
       )
     ];
     once = λ q y is. stored.once q y (sym (others q (apart q y is)) ∙ is);

@@ -36,7 +36,8 @@ module _ (limits : ServerLimits) (next bytes : ℕ) (k : Kept) (sound : IsSound 
       let d = some_and (get k.nodes h) IsDirNode (named_in k.nodes k.paths sound.named h name to node_fits at).0 in
       let is_dir : x.kind ≡ Dir = ap (λ (p : PathNode). p.kind) (some_same at_h d.1) ∙ d.2 in
       let empty_names = empty_of_len (names_of k.paths h) (sym (sound.counted h x at_h).names ∙ bare is_dir) in
-      some_none at (sym (get-names_of h node_fits k.paths name) ∙ ap (λ m. get m name) empty_names ∙ get-empty (slice_cmp
+      some_none at (sym (get-names_of h node_fits k.paths name) ∙ ap (λ m. get m name) empty_names
+          ∙ get-empty (slice_cmp
       nat_cmp) name))
 
   bare_names : names_of k.paths h ≡ empty
@@ -64,9 +65,11 @@ module _ (limits : ServerLimits) (next bytes : ℕ) (k : Kept) (sound : IsSound 
     abbrev kept_less : Kept
     kept_less = kept_as k.root nodes_less k.contents paths_less
 
-    are_less : (q : List ℕ) → get nodes_less q ≡ option_map (drop_laws.less_if x.kind (bytes_eq dir q) (bytes_eq h q)) (get
+    are_less : (q : List ℕ) → get nodes_less q ≡ option_map (drop_laws.less_if x.kind (bytes_eq dir q) (bytes_eq h q))
+        (get
         k.nodes q)
-    are_less q = two_puts k.nodes dir h p (one_less x.kind p) x (one_link_less x) (drop_laws.less_if x.kind) is at_h not_one
+    are_less q = two_puts k.nodes dir h p (one_less x.kind p) x (one_link_less x)
+        (drop_laws.less_if x.kind) is at_h not_one
         refl refl (λ y. refl) q
 
     sound_less : IsSound limits next (bytes - 512) kept_less
@@ -86,7 +89,8 @@ module _ (limits : ServerLimits) (next bytes : ℕ) (k : Kept) (sound : IsSound 
 
     -- WITHOUT THE NODE
 
-    module _ (last : x.links ≤ 1) (nodes' : ByBytes PathNode) (is_nodes : nodes' ≡ remove dir_less h) (contents' : Contents)
+    module _ (last : x.links ≤ 1) (nodes' : ByBytes PathNode) (is_nodes : nodes' ≡ remove dir_less h)
+        (contents' : Contents)
         (is_contents : contents' ≡ remove k.contents h) (store store' : Stored) (is_paths : k.paths ≡ store.names)
         (drops : Drops store dir name h store') where
       no_links : x.links - 1 ≡ 0
@@ -117,7 +121,8 @@ module _ (limits : ServerLimits) (next bytes : ℕ) (k : Kept) (sound : IsSound 
 
       pub tree_last : the_tree after ≡ let_go (unnamed (the_tree k) dir name) h
       tree_last = ap (λ m. the_tree (kept_as k.root nodes' contents' m)) names_gone
-          ∙ gone_laws.tree_gone limits next (bytes - 512) kept_less sound_less h (one_link_less x) at_less no_links (λ _.
+          ∙ gone_laws.tree_gone limits next (bytes - 512) kept_less sound_less h (one_link_less x) at_less no_links
+              (λ _.
           bare_less) nodes' gone others contents' same_bytes
           ∙ ap (λ t. without_node t h) tree_less
           ∙ sym (let_go-unlinked (unnamed (the_tree k) dir name) h links_none)
@@ -135,13 +140,15 @@ module _ (limits : ServerLimits) (next bytes : ℕ) (k : Kept) (sound : IsSound 
           let fewer : (bytes - 512) - used_by lost ≡ bytes - (512 + size) = omega (arith, is_size) in
           subst (λ m. IsSound limits next (bytes - (512 + size)) (kept_as k.root nodes' contents' m)) (sym names_gone)
           (subst (λ b. IsSound limits next b (kept_as k.root nodes' contents' paths_less)) fewer
-          (gone_laws.sound_gone limits next (bytes - 512) kept_less sound_less h (one_link_less x) at_less no_links (λ _.
+          (gone_laws.sound_gone limits next (bytes - 512) kept_less sound_less h (one_link_less x) at_less no_links
+              (λ _.
           bare_less) nodes' gone others contents' same_bytes
           (ap (λ m. get m h) is_contents ∙ get-remove_same k.contents h)
           (λ q ne. ap (λ m. get m q) is_contents ∙ get-remove_other k.contents h q ne)))
 
       pub stored_last : IsStored k.nodes store → IsStored nodes' store'
-      stored_last stored = gone_laws.stored_gone limits next (bytes - 512) kept_less sound_less h (one_link_less x) at_less
+      stored_last stored = gone_laws.stored_gone limits next (bytes - 512) kept_less sound_less h
+          (one_link_less x) at_less
           no_links (λ _. bare_less) nodes' gone others contents' same_bytes store store'
           (drop_laws.stored_less limits next bytes k sound dir name p is is_directory h leads x at_h nodes_less are_less
           store store stored stored.whole (λ q. (λ there. there, λ there. there)))

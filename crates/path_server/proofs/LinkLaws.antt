@@ -83,7 +83,8 @@ module _ (limits : ServerLimits) (next bytes : ℕ) (k : Kept) (sound : IsSound 
       insert m name h) names_dir names_other
 
   used_more : used (the_tree after) ≡ used now + 512
-  used_more = ap used tree_more ∙ used-named now dir name (node_here k dir p) names (node_at-kept k dir p is) old_content
+  used_more = ap used tree_more ∙ used-named now dir name (node_here k dir p) names
+      (node_at-kept k dir p is) old_content
       h name_new
 
   -- COUNTS
@@ -159,10 +160,13 @@ module _ (limits : ServerLimits) (next bytes : ℕ) (k : Kept) (sound : IsSound 
       IsSome (get nodes' to)) [
         | inl same ↦
             let is_dir : take 32 key ≡ dir = ap (take 32) same ∙ start_of dir name dir_fits in
-            let is_to : h ≡ to = some_same (get-insert_same k.paths (dir ++ name) h) (ap (get paths_more) (sym same) ∙ at) in (
-              subst (λ d. IsSomeAnd (get nodes' d) IsDirNode) (sym is_dir) (recount.dir_after k nodes' paths_more counts alike
+            let is_to : h ≡ to = some_same (get-insert_same k.paths (dir ++ name) h)
+                (ap (get paths_more) (sym same) ∙ at) in (
+              subst (λ d. IsSomeAnd (get nodes' d) IsDirNode) (sym is_dir)
+                  (recount.dir_after k nodes' paths_more counts alike
                   are dir (is_some_and IsDirNode is is_directory)),
-              subst (λ d. IsSome (get nodes' d)) is_to (recount.grows k nodes' paths_more counts alike are h (some_is at_h)),
+              subst (λ d. IsSome (get nodes' d)) is_to
+                  (recount.grows k nodes' paths_more counts alike are h (some_is at_h)),
             )
         | inr ne ↦
             let both = sound.named key to (sym (get-insert_other k.paths (dir ++ name) h key ne) ∙ at) in (
@@ -191,7 +195,8 @@ module _ (limits : ServerLimits) (next bytes : ℕ) (k : Kept) (sound : IsSound 
       λ there. recount.dir_after k nodes' paths_more counts alike are q ((stored.dirs q).0 ((dirs q).0 there)),
       λ there. (dirs q).1 ((stored.dirs q).1 (recount.dir_before k nodes' paths_more counts alike are q there)),
     );
-    once = recount.each_after k nodes' paths_more counts alike are (λ q y. y.kind ≡ Dir → y.links ≤ 1) (λ q y e. few q y e
+    once = recount.each_after k nodes' paths_more counts alike are (λ q y. y.kind ≡ Dir → y.links ≤ 1)
+        (λ q y e. few q y e
         (bytes_eq h q) refl);
   }
     where
@@ -209,7 +214,8 @@ module _ (limits : ServerLimits) (next bytes : ℕ) (k : Kept) (sound : IsSound 
     (dir name : List ℕ) (p : PathNode) (is : get k.nodes dir ≡ Some p) (is_directory : p.kind ≡ Dir) (new_name : get
     k.paths (dir ++ name) ≡ None)
     (h : List ℕ) (x : PathNode) (at_h : get k.nodes h ≡ Some x) (other : x.kind ≢ Dir)
-    (nodes' : ByBytes PathNode) (is_nodes : nodes' ≡ insert (insert k.nodes dir (one_more x.kind p)) h (one_link_more x))
+    (nodes' : ByBytes PathNode)
+        (is_nodes : nodes' ≡ insert (insert k.nodes dir (one_more x.kind p)) h (one_link_more x))
     (store store' : Stored) (is_paths : k.paths ≡ store.names) (is_store : store' ≡ with_name store dir name h) where
   not_one : h ≢ dir
   not_one same = other (ap (λ (p : PathNode). p.kind) (some_same at_h (ap (get k.nodes) same ∙ is)) ∙ is_directory)
@@ -225,7 +231,8 @@ module _ (limits : ServerLimits) (next bytes : ℕ) (k : Kept) (sound : IsSound 
   names_linked = ap (λ (s : Stored). s.names) is_store ∙ ap (λ m. insert m (dir ++ name) h) (sym is_paths)
 
   pub tree_linked : the_tree linked ≡ named (the_tree k) dir name h
-  tree_linked = ap (λ m. the_tree (kept_as k.root nodes' k.contents m)) names_linked ∙ tree_more limits next bytes k sound
+  tree_linked = ap (λ m. the_tree (kept_as k.root nodes' k.contents m)) names_linked
+      ∙ tree_more limits next bytes k sound
       dir name p is is_directory new_name h x at_h nodes' are_linked
 
   pub sound_linked : bytes + 512 ≤ limits.bytes → IsSound limits next (bytes + 512) linked

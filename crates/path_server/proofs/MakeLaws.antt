@@ -29,7 +29,8 @@ use Rattle.path_server.proofs.Recounted.{bytes_differ}
 use Rattle.path_server.proofs.StoredLaws.{stored_put, stored_new}
 use Rattle.path_server.proofs.Serials.{length-serial_bytes, kept_fits, next_absent}
 
-module _ (limits : ServerLimits) (next bytes : ℕ) (k : Kept) (sound : IsSound limits next bytes k) (small : next < 2 ^ 64)
+module _ (limits : ServerLimits) (next bytes : ℕ) (k : Kept) (sound : IsSound limits next bytes k)
+    (small : next < 2 ^ 64)
     (dir name : List ℕ) (p : PathNode) (is : get k.nodes dir ≡ Some p) (is_directory : p.kind ≡ Dir) (new_name : get
     k.paths (dir ++ name) ≡ None)
     (kind : Kind) (text : List ℕ) (contents' : Contents) (added : IsAdded kind (serial_bytes next) text k.contents
@@ -69,7 +70,8 @@ module _ (limits : ServerLimits) (next bytes : ℕ) (k : Kept) (sound : IsSound 
 
   no_names : names_of k.paths to ≡ empty
   no_names = names_of-none to (length-serial_bytes next) k.paths (λ x. none_of (get k.paths (to ++ x)) (λ h at.
-      is_and_none (get k.nodes to) IsDirNode (named_in k.nodes k.paths sound.named to x h (length-serial_bytes next) at).0 absent))
+      is_and_none (get k.nodes to) IsDirNode
+          (named_in k.nodes k.paths sound.named to x h (length-serial_bytes next) at).0 absent))
 
   -- WHAT IS KEPT AFTER
 
@@ -127,7 +129,8 @@ module _ (limits : ServerLimits) (next bytes : ℕ) (k : Kept) (sound : IsSound 
   with_new = insert (nodes_of k.nodes k.contents k.paths) to (new_node next content)
 
   node_dir : full_node contents' paths_after dir (one_more kind p) ≡ more old_dir
-  node_dir = ap (λ c. let n : Node = record { number = p.number; mode = p.mode; uid = p.uid; gid = p.gid; content = c } in n)
+  node_dir = ap (λ c. let n : Node =
+      record { number = p.number; mode = p.mode; uid = p.uid; gid = p.gid; content = c } in n)
       (fuller_content p.kind (bytes_under k.contents dir) (bytes_under contents' dir) names (names_of paths_after
       dir) (λ m. insert m name to) is_directory names_dir)
 
@@ -137,7 +140,8 @@ module _ (limits : ServerLimits) (next bytes : ℕ) (k : Kept) (sound : IsSound 
 
   node_other : (q : List ℕ) (x : PathNode) → q ≢ dir → q ≢ to → get k.nodes q ≡ Some x →
       full_node contents' paths_after q x ≡ full_node k.contents k.paths q x
-  node_other q x ne ne' e = ap (λ b. node_of x b (names_of paths_after q)) (bytes-same k.contents contents' q (added.others q ne'))
+  node_other q x ne ne' e = ap (λ b. node_of x b (names_of paths_after q))
+      (bytes-same k.contents contents' q (added.others q ne'))
       ∙ ap (node_of x (bytes_under k.contents q)) (names_other q (kept_fits k.nodes next sound.serials q x e) ne)
 
   same_node : (q : List ℕ) → q ≢ dir → q ≢ to → option_map (full_node contents' paths_after q) (get k.nodes q) ≡
@@ -157,9 +161,11 @@ module _ (limits : ServerLimits) (next bytes : ℕ) (k : Kept) (sound : IsSound 
             kept_dir ∙ ap Some node_dir ∙ sym (get-insert_same with_new dir (more old_dir)))
         | inr ne ↦ elim (bytes_or_not q to) as (λ _. get (nodes_of nodes_after contents' paths_after) q ≡ get (insert
             with_new dir (more old_dir)) q) [
-              | inl same ↦ subst (λ k. get (nodes_of nodes_after contents' paths_after) k ≡ get (insert with_new dir (more
+              | inl same ↦ subst (λ k. get (nodes_of nodes_after contents' paths_after) k ≡ get
+                  (insert with_new dir (more
                   old_dir)) k) (sym same)
-                  (get-nodes_of nodes_after contents' paths_after to ∙ ap (option_map (full_node contents' paths_after to))
+                  (get-nodes_of nodes_after contents' paths_after to
+                      ∙ ap (option_map (full_node contents' paths_after to))
                   kept_to ∙ ap Some node_new
                   ∙ sym (get-insert_other with_new dir (more old_dir) to apart
                   ∙ get-insert_same (nodes_of k.nodes k.contents k.paths) to (new_node next content)))
@@ -205,7 +211,8 @@ module _ (limits : ServerLimits) (next bytes : ℕ) (k : Kept) (sound : IsSound 
   old_content = dir_content p.kind (bytes_under k.contents dir) names is_directory
 
   len_names : len (insert names name to) ≡ len names + 1
-  len_names = len-insert nat_list_cmp_total names name to ∙ ap (λ o. cond (is_some o) (len names) (len names + 1)) name_new
+  len_names = len-insert nat_list_cmp_total names name to
+      ∙ ap (λ o. cond (is_some o) (len names) (len names + 1)) name_new
 
   used_after : used_by content ≡ length text → used (the_tree after) ≡ used now + (512 + length text)
   used_after full =
@@ -336,7 +343,8 @@ module _ (limits : ServerLimits) (next bytes : ℕ) (k : Kept) (sound : IsSound 
       len-insert nat_list_cmp_total (insert k.nodes to made) dir (one_more kind p)
       ∙ ap (λ o. cond (is_some o) (len (insert k.nodes to made)) (len (insert k.nodes to made) + 1))
       (get-insert_other k.nodes to made dir (λ e. apart (sym e)) ∙ is)
-      ∙ len-insert nat_list_cmp_total k.nodes to made ∙ ap (λ o. cond (is_some o) (len k.nodes) (len k.nodes + 1)) absent
+      ∙ len-insert nat_list_cmp_total k.nodes to made ∙ ap
+          (λ o. cond (is_some o) (len k.nodes) (len k.nodes + 1)) absent
 
   sound_after : used_by content ≡ length text → bytes + (512 + length text) ≤ limits.bytes →
       len k.nodes < limits.nodes → IsSound limits (next + 1) (bytes + (512 + length text)) after
@@ -371,6 +379,7 @@ module _ (limits : ServerLimits) (next bytes : ℕ) (k : Kept) (sound : IsSound 
 
     pub stored_made : (store store' : Stored) → IsStored k.nodes store → AddsNode kind store dir name handle store' →
         IsStored nodes' store'
-    stored_made store store' stored adds = rw (is_nodes, is_handle) (stored_put (insert k.nodes to made) dir (one_more kind p)
+    stored_made store store' stored adds = rw (is_nodes, is_handle)
+        (stored_put (insert k.nodes to made) dir (one_more kind p)
         store' p (get-insert_other k.nodes to made dir (λ e. apart (sym e)) ∙ is) refl refl
         (stored_new k.nodes to made store store' dir name (omega arith) (rw is_handle at adds) stored))

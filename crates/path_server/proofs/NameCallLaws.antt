@@ -78,7 +78,8 @@ module _ (held : Bool) (limits : ServerLimits) (next bytes : ℕ) (k : Kept) (so
         })
         (λ is. record { tree = told_not_dir held limits next bytes k sound dir is; limits = refl; faults = refl })
 
-    pub link-exists : (to : List ℕ) (p : PathNode) → IsFoundDir k.nodes dir (Ok p) → get k.paths (dir ++ name) ≡ Some to →
+    pub link-exists : (to : List ℕ) (p : PathNode) → IsFoundDir k.nodes dir (Ok p) →
+        get k.paths (dir ++ name) ≡ Some to →
         Link the_server h dir name (Err Exists) the_server
     link-exists to p is leads = record {
       tree = held_tree held now (λ t. HasName t dir name × (tree_of held k ≡ Some t)) (λ there. (
@@ -103,9 +104,11 @@ module _ (held : Bool) (limits : ServerLimits) (next bytes : ℕ) (k : Kept) (so
         IsFoundDir k.nodes dir (Ok p) → get k.paths (dir ++ name) ≡ None → limits' ≡ limits → new ≡ Some (named now dir
         name h) → Link the_server h dir name (Ok tt) (record { tree = new; limits = limits'; faults = 0 })
     link-ok x p new limits' leaf is none same made = record {
-      tree = held_tree held now (λ t. (new ≡ Some (named t dir name h)) × OnlySoft (LinkErr limits h dir name t)) (λ there. (
+      tree = held_tree held now (λ t. (new ≡ Some (named t dir name h)) × OnlySoft (LinkErr limits h dir name t))
+          (λ there. (
         made,
-        link_soft limits now h dir name (no_dir_now h (is_some_and (λ (p : PathNode). p.kind ≢ Dir) leaf.0 leaf.1)) (lacks
+        link_soft limits now h dir name (no_dir_now h (is_some_and (λ (p : PathNode). p.kind ≢ Dir) leaf.0 leaf.1))
+            (lacks
             held limits next bytes k sound dir name p there is none),
       ));
       limits = same;
@@ -152,8 +155,10 @@ module _ (held : Bool) (limits : ServerLimits) (next bytes : ℕ) (k : Kept) (so
       there_leads there = target_is limits next bytes k (sound there) dir p is.0 is.1 name ∙ leads
 
       -- the tree without the name
-      pub removed_is : held ≡ true → (new : Tree) → new ≡ let_go (unnamed now dir name) h → Removed now dir name (Some new)
-      removed_is there new same = is_some_and (λ h. Some new ≡ Some (let_go (unnamed now dir name) h)) (there_leads there) (ap
+      pub removed_is : held ≡ true → (new : Tree) → new ≡ let_go (unnamed now dir name) h →
+          Removed now dir name (Some new)
+      removed_is there new same = is_some_and (λ h. Some new ≡ Some (let_go (unnamed now dir name) h))
+          (there_leads there) (ap
           Some same)
 
       -- the node is kept
@@ -165,7 +170,8 @@ module _ (held : Bool) (limits : ServerLimits) (next bytes : ℕ) (k : Kept) (so
       remove-no_leaf there e found = found_leaf_error k h e found (λ e. Remove the_server dir name (Err e) the_server)
           (λ none. absurd (kept_there there none))
           (λ other. record {
-            tree = held_tree held now (λ t. IsSomeAnd (target t dir name) (IsDir t) × (tree_of held k ≡ Some t)) (λ there.
+            tree = held_tree held now (λ t. IsSomeAnd (target t dir name) (IsDir t) × (tree_of held k ≡ Some t))
+                (λ there.
                 let x = some_and (get k.nodes h) IsDirNode other in (
                   is_some_and (IsDir now) (there_leads there) (is_dir_now h x.0 there x.1 x.2),
                   there_is there,
@@ -183,7 +189,8 @@ module _ (held : Bool) (limits : ServerLimits) (next bytes : ℕ) (k : Kept) (so
       remove-ok x new limits' leaf same done = record {
         tree = held_tree held now (λ t. Removed t dir name new × OnlySoft (RemoveErr dir name t)) (λ there. (
           done,
-          remove_soft now dir name h (there_leads there) (no_dir_now h (is_some_and (λ (p : PathNode). p.kind ≢ Dir) leaf.0
+          remove_soft now dir name h (there_leads there)
+              (no_dir_now h (is_some_and (λ (p : PathNode). p.kind ≢ Dir) leaf.0
               leaf.1)),
         ));
         limits = same;
@@ -212,7 +219,8 @@ module _ (held : Bool) (limits : ServerLimits) (next bytes : ℕ) (k : Kept) (so
 
         pub rmdir-full : 0 < x.names → Rmdir the_server dir name (Err NotEmpty) the_server
         rmdir-full some = record {
-          tree = held_tree held now (λ t. IsSomeAnd (target t dir name) (HasNames t) × (tree_of held k ≡ Some t)) (λ there. (
+          tree = held_tree held now (λ t. IsSomeAnd (target t dir name) (HasNames t) × (tree_of held k ≡ Some t))
+              (λ there. (
             is_some_and (HasNames now) (there_leads there) (is_some_and (λ (m : Names). m ≢ empty) (names_are there) (λ
                 none. let count = count_is there in let size = ap len none in
                 let zero_size = len-empty (slice_cmp nat_cmp) (List ℕ) in omega (arith, some, count, size, zero_size))),
@@ -231,7 +239,8 @@ module _ (held : Bool) (limits : ServerLimits) (next bytes : ℕ) (k : Kept) (so
         rmdir-ok new limits' none same done = record {
           tree = held_tree held now (λ t. Removed t dir name new × OnlySoft (RmdirErr dir name t)) (λ there. (
             done,
-            rmdir_soft now dir name h (there_leads there) (names_are there ∙ ap Some (empty_of_len (names_of k.paths h) (sym
+            rmdir_soft now dir name h (there_leads there)
+                (names_are there ∙ ap Some (empty_of_len (names_of k.paths h) (sym
                 (count_is there) ∙ none))),
           ));
           limits = same;

@@ -31,11 +31,13 @@ abbrev pub IsDirNode : PathNode → Type 0
 IsDirNode p = p.kind ≡ Dir
 
 -- of one kind: the one is a directory where the other is
-pub dir_same : (o o' : Option PathNode) → option_map (λ (p : PathNode). p.kind) o ≡ option_map (λ (p : PathNode). p.kind) o' →
+pub dir_same : (o o' : Option PathNode) → option_map (λ (p : PathNode). p.kind) o ≡ option_map
+    (λ (p : PathNode). p.kind) o' →
     IsSomeAnd o IsDirNode → IsSomeAnd o' IsDirNode
 dir_same None o' e there = absurd there
 dir_same (Some p) None e there = absurd (some_none (sym e) refl)
-dir_same (Some p) (Some x) e there = (let f : Some p.kind ≡ Some x.kind = e in let same : x.kind ≡ p.kind = cc in same) ∙ there
+dir_same (Some p) (Some x) e there = (let f : Some p.kind ≡ Some x.kind = e in let same : x.kind ≡ p.kind = cc in same)
+    ∙ there
 
 module _ (nodes : ByBytes PathNode) (paths : Paths) (named : AreNamed nodes paths) where
   -- a name of a directory, by its parts

@@ -11,7 +11,8 @@ pub names_of-remove_same : (dir : List ℕ) → length dir ≡ 32 → (paths : P
 names_of-remove_same dir fits paths name = same_answers (names_of (remove paths (dir ++ name)) dir) (remove (names_of
     paths dir) name) (λ q. elim (bytes_or_not q name) as (λ _. get (names_of (remove paths (dir ++ name)) dir) q ≡ get
     (remove (names_of paths dir) name) q) [
-      | inl same ↦ subst (λ x. get (names_of (remove paths (dir ++ name)) dir) x ≡ get (remove (names_of paths dir) name) x)
+      | inl same ↦ subst (λ x. get (names_of (remove paths (dir ++ name)) dir) x ≡ get
+          (remove (names_of paths dir) name) x)
           (sym same) (get-names_of dir fits (remove paths (dir ++ name)) name ∙ get-remove_same paths (dir ++ name)
           ∙ sym (get-remove_same (names_of paths dir) name))
       | inr ne ↦ get-names_of dir fits (remove paths (dir ++ name)) q

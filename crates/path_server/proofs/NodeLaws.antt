@@ -40,18 +40,23 @@ both_hold true b p q = q
 both_hold false b p q = absurd p
 
 module _ {A B : Type 0} (f : List ℕ → A → B) where
-  find_below : (x : List ℕ) (es : List (List ℕ × A)) → T (below_all (slice_cmp nat_cmp) x es) → find (slice_cmp nat_cmp) x (map (λ e. (e.0, f e.0 e.1)) es) ≡ None
+  find_below : (x : List ℕ) (es : List (List ℕ × A)) → T (below_all (slice_cmp nat_cmp) x es) →
+      find (slice_cmp nat_cmp) x (map (λ e. (e.0, f e.0 e.1)) es) ≡ None
   find_below x [] h = refl
   find_below x (e ∷ es) h =
-      ap (λ r. cond (is_eq r) (Some (f e.0 e.1)) (find (slice_cmp nat_cmp) x (map (λ e. (e.0, f e.0 e.1)) es))) (less _ (both_first _ (below_all (slice_cmp nat_cmp) x es) h))
+      ap (λ r. cond (is_eq r) (Some (f e.0 e.1)) (find (slice_cmp nat_cmp) x (map (λ e. (e.0, f e.0 e.1)) es)))
+          (less _ (both_first _ (below_all (slice_cmp nat_cmp) x es) h))
       ∙ find_below x es (both_second (is_lt (slice_cmp nat_cmp x e.0)) _ h)
 
-  len-mapped : (es : List (List ℕ × A)) → T (is_sorted (slice_cmp nat_cmp) es) → len (from_entries {R = slice_cmp nat_cmp} (map (λ e. (e.0, f e.0 e.1)) es)) ≡ length es
+  len-mapped : (es : List (List ℕ × A)) → T (is_sorted (slice_cmp nat_cmp) es) →
+      len (from_entries {R = slice_cmp nat_cmp} (map (λ e. (e.0, f e.0 e.1)) es)) ≡ length es
   len-mapped [] h = len-empty (slice_cmp nat_cmp) B
   len-mapped (e ∷ es) h =
       let m : FinMap (slice_cmp nat_cmp) B = from_entries (map (λ e. (e.0, f e.0 e.1)) es) in
       len-insert nat_list_cmp_total m e.0 (f e.0 e.1)
-      ∙ ap (λ o. cond (is_some o) (len m) (len m + 1)) (get-from_entries nat_list_cmp_total (map (λ e. (e.0, f e.0 e.1)) es) e.0 ∙ find_below e.0 es (both_first _ (is_sorted (slice_cmp nat_cmp) es) h))
+      ∙ ap (λ o. cond (is_some o) (len m) (len m + 1))
+          (get-from_entries nat_list_cmp_total (map (λ e. (e.0, f e.0 e.1)) es) e.0
+          ∙ find_below e.0 es (both_first _ (is_sorted (slice_cmp nat_cmp) es) h))
       ∙ ap (λ n. n + 1) (len-mapped es (both_second (below_all (slice_cmp nat_cmp) e.0 es) _ h)) ∙ add-one _
 
   find-mapped : (es : List (List ℕ × A)) (h : List ℕ) → find (slice_cmp nat_cmp) h (map (λ e. (
@@ -77,7 +82,8 @@ len-nodes_of nodes contents paths = len-mapped (full_node contents paths) (entri
     ∙ sym (len-entries nodes)
 
 module _ {A : Type 0} where
-  all_below : (x : List ℕ) (es : List (List ℕ × A)) → AllByRecursion (λ y. slice_cmp nat_cmp x y ≡ Less) (map (λ e. e.0) es) → T (below_all (slice_cmp nat_cmp) x es)
+  all_below : (x : List ℕ) (es : List (List ℕ × A)) → AllByRecursion (λ y. slice_cmp nat_cmp x y ≡ Less)
+      (map (λ e. e.0) es) → T (below_all (slice_cmp nat_cmp) x es)
   all_below x [] h = tt
   all_below x (e ∷ es) h = both_hold _ _ (is_less _ h.0) (all_below x es h.1)
     where
@@ -86,7 +92,8 @@ module _ {A : Type 0} where
       is_less Equal e = cc
       is_less Greater e = cc
 
-  sorted_rows : (es : List (List ℕ × A)) → IsStrictlySortedBy (slice_cmp nat_cmp) (map (λ e. e.0) es) → T (is_sorted (slice_cmp nat_cmp) es)
+  sorted_rows : (es : List (List ℕ × A)) → IsStrictlySortedBy (slice_cmp nat_cmp) (map (λ e. e.0) es) →
+      T (is_sorted (slice_cmp nat_cmp) es)
   unfolding IsStrictlySortedBy
   sorted_rows [] h = tt
   sorted_rows (e ∷ es) h = both_hold _ _ (all_below e.0 es h.0) (sorted_rows es h.1)
@@ -96,8 +103,10 @@ module _ {A : Type 0} where
   rows_same (e ∷ es) = ap (λ l. e ∷ l) (rows_same es)
 
   -- a map has as many rows as its view
-  pub len-rows : (es : List (List ℕ × A)) → IsStrictlySortedBy (slice_cmp nat_cmp) (map (λ e. e.0) es) → len (from_entries {R = slice_cmp nat_cmp} es) ≡ length es
-  len-rows es h = ap (λ l. len (from_entries {R = slice_cmp nat_cmp} l)) (sym (rows_same es)) ∙ len-mapped (λ _ v. v) es (sorted_rows es h)
+  pub len-rows : (es : List (List ℕ × A)) → IsStrictlySortedBy (slice_cmp nat_cmp) (map (λ e. e.0) es) →
+      len (from_entries {R = slice_cmp nat_cmp} es) ≡ length es
+  len-rows es h = ap (λ l. len (from_entries {R = slice_cmp nat_cmp} l)) (sym (rows_same es))
+      ∙ len-mapped (λ _ v. v) es (sorted_rows es h)
 
 -- WHICH
 
@@ -119,7 +128,8 @@ module _ (k : Kept) where
   abbrev pub node_here : List ℕ → PathNode → Node
   node_here h p = full_node k.contents k.paths h p
 
-  pub node_at-kept : (h : List ℕ) (p : PathNode) → get k.nodes h ≡ Some p → node_at (the_tree k) h ≡ Some (node_here h p)
+  pub node_at-kept : (h : List ℕ) (p : PathNode) → get k.nodes h ≡ Some p →
+      node_at (the_tree k) h ≡ Some (node_here h p)
   node_at-kept h p e = get-nodes_of k.nodes k.contents k.paths h ∙ ap (option_map (node_here h)) e
 
   pub node_at-none : (h : List ℕ) → get k.nodes h ≡ None → node_at (the_tree k) h ≡ None
@@ -132,7 +142,8 @@ module _ (k : Kept) where
       elim (get k.nodes h) as (λ o. option_map (node_here h) o ≡ Some n →
       (p : PathNode) × (o ≡ Some p) × (n ≡ node_here h p)) [
         | None ↦ λ no. absurd (let bad : None ≡ Some n = no in cc)
-        | Some p ↦ λ is. (p, refl, (let f : Some (node_here h p) ≡ Some n = is in let same : n ≡ node_here h p = cc in same))
+        | Some p ↦ λ is. (p, refl,
+            (let f : Some (node_here h p) ≡ Some n = is in let same : n ≡ node_here h p = cc in same))
       ] (sym (get-nodes_of k.nodes k.contents k.paths h) ∙ e)
 
   -- DIRECTORIES
@@ -150,5 +161,6 @@ module _ (k : Kept) where
       ] refl
 
 -- where the kinds are the same, so are the directories
-pub same_dirs : (k l : Kept) (h : List ℕ) → kind_at k h ≡ kind_at l h → is_dir_at (the_tree k) h ≡ is_dir_at (the_tree l) h
+pub same_dirs : (k l : Kept) (h : List ℕ) → kind_at k h ≡ kind_at l h →
+    is_dir_at (the_tree k) h ≡ is_dir_at (the_tree l) h
 same_dirs k l h same = is_dir_at-kind k h ∙ ap is_dir_kind same ∙ sym (is_dir_at-kind l h)

@@ -59,7 +59,8 @@ module _ (a b : ℕ) where
         ∙ ap (option_map (shown_node (shown_at b))) m.1)
         (subst (λ x. IsMovedNode moves x (shown_node (shown_at b) m.0)) m.2 (moved_node m.0))
 
-    some_mapped : {A B C : Type 0} (f : A → B) (g : A → C) (o : Option A) → IsSome (option_map f o) → IsSome (option_map g o)
+    some_mapped : {A B C : Type 0} (f : A → B) (g : A → C) (o : Option A) → IsSome (option_map f o) →
+        IsSome (option_map g o)
     some_mapped f g None s = s
     some_mapped f g (Some x) s = refl
 
@@ -78,7 +79,8 @@ module _ (a b : ℕ) where
       root = back_again t.root;
       there = there;
       back = back;
-      apart = λ p q _ _ e. sym (shown_twice a p) ∙ ap (shown_at a) (sym (shown_twice b (shown_at a p)) ∙ ap (shown_at b) e
+      apart = λ p q _ _ e. sym (shown_twice a p) ∙ ap (shown_at a)
+          (sym (shown_twice b (shown_at a p)) ∙ ap (shown_at b) e
           ∙ shown_twice b (shown_at a q)) ∙ shown_twice a q;
     }
 
@@ -116,7 +118,8 @@ serial_inside : (n : ℕ) → (r : List ℕ) × (serial_bytes n ≡ replicate 8 
 unfolding serial_bytes
 serial_inside n = (to_be_bytes w64 n ++ replicate 16 0, refl)
 
-begin_inside : (limits : ServerLimits) (next bytes : ℕ) (k : Kept) → IsSound limits next bytes k → BeginInside (the_tree k)
+begin_inside : (limits : ServerLimits) (next bytes : ℕ) (k : Kept) → IsSound limits next bytes k →
+    BeginInside (the_tree k)
 begin_inside limits next bytes k sound h some =
     let n = some_of (node_at (the_tree k) h) some in
     let p = kept-node_at k h n.0 n.1 in
@@ -145,11 +148,13 @@ none_stays a b fits fits' apart t begins h some =
 -- no handle from before leads to a node
 pub old_handles_stale : (a b : ℕ) → a < 2 ^ 64 → b < 2 ^ 64 → a ≢ b → (held : Bool) (limits : ServerLimits)
     (next bytes : ℕ) (k : Kept) → (held ≡ true → IsSound limits next bytes k) →
-    NoneStays (option_map (shown_tree (shown_at a)) (tree_of held k)) (option_map (shown_tree (shown_at b)) (tree_of held k))
+    NoneStays (option_map (shown_tree (shown_at a)) (tree_of held k))
+        (option_map (shown_tree (shown_at b)) (tree_of held k))
 old_handles_stale a b fits fits' apart held limits next bytes k sound t u at_t at_u h some =
     let x = mapped_some (shown_tree (shown_at a)) (tree_of held k) t at_t in
     let y = mapped_some (shown_tree (shown_at b)) (tree_of held k) u at_u in
-    let begins : BeginInside x.0 = held_tree held (the_tree k) BeginInside (λ there. begin_inside limits next bytes k (sound there)) x.0 x.1 in
+    let begins : BeginInside x.0 = held_tree held (the_tree k) BeginInside
+        (λ there. begin_inside limits next bytes k (sound there)) x.0 x.1 in
     let one : y.0 ≡ x.0 = (let e : Some y.0 ≡ Some x.0 = sym y.1 ∙ x.1 in cc) in
     ap (λ v. node_at v h) (sym (ap (shown_tree (shown_at b)) (sym one) ∙ y.2))
     ∙ none_stays a b fits fits' apart x.0 begins h (subst (λ v. IsSome (node_at v h)) (sym x.2) some)
@@ -158,7 +163,8 @@ old_handles_stale a b fits fits' apart held limits next bytes k sound t u at_t a
 
 pub within_seen : (shown : List ℕ → List ℕ) → ((h : List ℕ) → shown (shown h) ≡ h) → (limits : ServerLimits)
     (o : Option Tree) → IfSome o (λ (t : Tree). (len t.nodes ≤ max 1 limits.nodes) × (used t ≤ limits.bytes)) →
-    IfSome (option_map (shown_tree shown) o) (λ (t : Tree). (len t.nodes ≤ max 1 limits.nodes) × (used t ≤ limits.bytes))
+    IfSome (option_map (shown_tree shown) o)
+        (λ (t : Tree). (len t.nodes ≤ max 1 limits.nodes) × (used t ≤ limits.bytes))
 within_seen shown twice limits None w = w
 within_seen shown twice limits (Some t) w = (
   subst (λ n. n ≤ max 1 limits.nodes) (sym (len-shown shown twice t)) w.0,

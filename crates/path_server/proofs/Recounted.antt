@@ -33,20 +33,25 @@ pub bytes_same : (a b : List ℕ) → a ≡ b → bytes_eq a b ≡ true
 bytes_same a b same = (bytes_eq-Decides a b).1 same
 
 -- two nodes that are put in anew, by what of the two each node is
-pub two_puts : (nodes : ByBytes PathNode) (d h : List ℕ) (p p' x x' : PathNode) (f : Bool → Bool → PathNode → PathNode) →
+pub two_puts : (nodes : ByBytes PathNode) (d h : List ℕ) (p p' x x' : PathNode)
+    (f : Bool → Bool → PathNode → PathNode) →
     get nodes d ≡ Some p → get nodes h ≡ Some x → h ≢ d → f true false p ≡ p' → f false true x ≡ x' →
     ((y : PathNode) → f false false y ≡ y) → (q : List ℕ) →
     get (insert (insert nodes d p') h x') q ≡ option_map (f (bytes_eq d q) (bytes_eq h q)) (get nodes q)
 two_puts nodes d h p p' x x' f at_d at_h ne is_p is_x is_y q =
-    elim (bytes_or_not q h) as (λ _. get (insert (insert nodes d p') h x') q ≡ option_map (f (bytes_eq d q) (bytes_eq h q)) (get nodes q)) [
-      | inl same ↦ subst (λ q. get (insert (insert nodes d p') h x') q ≡ option_map (f (bytes_eq d q) (bytes_eq h q)) (get nodes q)) (sym same)
+    elim (bytes_or_not q h) as
+        (λ _. get (insert (insert nodes d p') h x') q ≡ option_map (f (bytes_eq d q) (bytes_eq h q)) (get nodes q)) [
+      | inl same ↦ subst (λ q. get (insert (insert nodes d p') h x') q ≡ option_map (f (bytes_eq d q) (bytes_eq h q))
+          (get nodes q)) (sym same)
           (get-insert_same (insert nodes d p') h x' ∙ ap Some (sym is_x)
           ∙ sym (ap (option_map (f (bytes_eq d h) (bytes_eq h h))) at_h
           ∙ ap (λ b. Some (f b (bytes_eq h h) x)) (bytes_differ d h (λ e. ne (sym e)))
           ∙ ap (λ b. Some (f false b x)) (bytes_same h h refl)))
       | inr not_h ↦ get-insert_other (insert nodes d p') h x' q not_h
-          ∙ (elim (bytes_or_not q d) as (λ _. get (insert nodes d p') q ≡ option_map (f (bytes_eq d q) (bytes_eq h q)) (get nodes q)) [
-            | inl same ↦ subst (λ q. get (insert nodes d p') q ≡ option_map (f (bytes_eq d q) (bytes_eq h q)) (get nodes q)) (sym same)
+          ∙ (elim (bytes_or_not q d) as
+              (λ _. get (insert nodes d p') q ≡ option_map (f (bytes_eq d q) (bytes_eq h q)) (get nodes q)) [
+            | inl same ↦ subst (λ q. get (insert nodes d p') q ≡ option_map (f (bytes_eq d q) (bytes_eq h q))
+                (get nodes q)) (sym same)
                 (get-insert_same nodes d p' ∙ ap Some (sym is_p)
                 ∙ sym (ap (option_map (f (bytes_eq d d) (bytes_eq h d))) at_d
                 ∙ ap (λ b. Some (f b (bytes_eq h d) p)) (bytes_same d d refl)
@@ -71,7 +76,8 @@ pub record IsRecount (p x : PathNode) : Type 0 where
   pub kind : x.kind ≡ p.kind
 
 module _ (k : Kept) (nodes' : ByBytes PathNode) (paths' : Paths) (f : List ℕ → PathNode → PathNode) (alike : (q : List
-    ℕ) (p : PathNode) → IsRecount p (f q p)) (are : (q : List ℕ) → get nodes' q ≡ option_map (f q) (get k.nodes q)) where
+    ℕ) (p : PathNode) → IsRecount p (f q p))
+        (are : (q : List ℕ) → get nodes' q ≡ option_map (f q) (get k.nodes q)) where
   abbrev after : Kept
   after = kept_as k.root nodes' k.contents paths'
 
@@ -96,7 +102,8 @@ module _ (k : Kept) (nodes' : ByBytes PathNode) (paths' : Paths) (f : List ℕ �
 
   pub kinds_after : (q : List ℕ) → kind_at after q ≡ kind_at k q
   kinds_after q =
-      elim (get k.nodes q) as (λ o. get k.nodes q ≡ o → option_map (λ (p : PathNode). p.kind) (get nodes' q) ≡ option_map
+      elim (get k.nodes q) as
+          (λ o. get k.nodes q ≡ o → option_map (λ (p : PathNode). p.kind) (get nodes' q) ≡ option_map
       (λ (p : PathNode). p.kind) o) [
         | None ↦ λ is. ap (option_map (λ (p : PathNode). p.kind)) (none_after q is)
         | Some p ↦ λ is. ap (option_map (λ (p : PathNode). p.kind)) (kept_after q p is) ∙ ap Some (alike q p).kind
@@ -136,8 +143,10 @@ module _ (k : Kept) (nodes' : ByBytes PathNode) (paths' : Paths) (f : List ℕ �
 
     node_dir : full_node k.contents paths' dir (f dir p) ≡ with_names g old_dir
     node_dir = (alike dir p).node (bytes_under k.contents dir) (names_of paths' dir)
-        ∙ ap (λ c. let n : Node = record { number = p.number; mode = p.mode; uid = p.uid; gid = p.gid; content = c } in n)
-        (fuller_content p.kind (bytes_under k.contents dir) (bytes_under k.contents dir) (names_of k.paths dir) (names_of
+        ∙ ap (λ c. let n : Node = record { number = p.number; mode = p.mode; uid = p.uid; gid = p.gid; content = c } in
+            n)
+        (fuller_content p.kind (bytes_under k.contents dir) (bytes_under k.contents dir) (names_of k.paths dir)
+            (names_of
         paths' dir) g is_directory here)
 
     same_node : (q : List ℕ) → q ≢ dir → option_map (full_node k.contents paths' q) (get nodes' q) ≡

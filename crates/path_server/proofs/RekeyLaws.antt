@@ -39,7 +39,8 @@ below_none : {A : Type 0} (x : List ℕ) (es : List (List ℕ × A)) → T (belo
     find (slice_cmp nat_cmp) x es ≡ None
 below_none x [] h = refl
 below_none x (e ∷ es) h =
-    ap (λ b. cond b (Some e.1) (find (slice_cmp nat_cmp) x es)) (not_tied _ (first_of _ (below_all (slice_cmp nat_cmp) x es) h))
+    ap (λ b. cond b (Some e.1) (find (slice_cmp nat_cmp) x es))
+        (not_tied _ (first_of _ (below_all (slice_cmp nat_cmp) x es) h))
     ∙ below_none x es (second_of (is_lt (slice_cmp nat_cmp x e.0)) _ h)
 
 module _ (key : List ℕ → List ℕ) (twice : (h : List ℕ) → key (key h) ≡ h) where
@@ -61,7 +62,8 @@ module _ (key : List ℕ → List ℕ) (twice : (h : List ℕ) → key (key h) �
     find-moved q [] = refl
     find-moved q (e ∷ es) =
         ap (λ b. cond b (Some (value e.1)) (find (slice_cmp nat_cmp) q (moved es))) (ties-key q e.0)
-        ∙ (elim (is_eq (slice_cmp nat_cmp (key q) e.0)) as (λ b. cond b (Some (value e.1)) (find (slice_cmp nat_cmp) q (moved es))
+        ∙ (elim (is_eq (slice_cmp nat_cmp (key q) e.0)) as
+            (λ b. cond b (Some (value e.1)) (find (slice_cmp nat_cmp) q (moved es))
         ≡ option_map value (cond b (Some e.1) (find (slice_cmp nat_cmp) (key q) es))) [
           | true ↦ refl
           | false ↦ find-moved q es
@@ -110,7 +112,8 @@ module _ (key : List ℕ → List ℕ) (twice : (h : List ℕ) → key (key h) �
 
     sum_moved : (w : B → ℕ) (es : List (List ℕ × A)) → T (is_sorted (slice_cmp nat_cmp) es) →
         total w (from_entries {R = slice_cmp nat_cmp} (moved es)) ≡ sum_values (λ x. w (value x)) es
-    sum_moved w [] h = total-none nat_list_cmp_total w empty (λ q v is. absurd (some_none is (get-empty (slice_cmp nat_cmp) q)))
+    sum_moved w [] h = total-none nat_list_cmp_total w empty
+        (λ q v is. absurd (some_none is (get-empty (slice_cmp nat_cmp) q)))
     sum_moved w (e ∷ es) h =
         let m : ByBytes B = from_entries (moved es) in
         let none : get m (key e.0) ≡ None = get-from_entries nat_list_cmp_total (moved es) (key e.0)

@@ -272,7 +272,8 @@ module _ (limits : ServerLimits) (next bytes : ℕ) (k : Kept) (sound : IsSound 
         (λ q x _ at. before q x at)
       where
         before : (q : List ℕ) (x : PathNode) → get between.nodes q ≡ Some x → x.kind ≡ Dir → x.links ≤ 1
-        before = by_place k.nodes from less (λ _ x. x.kind ≡ Dir → x.links ≤ 1) (once from p is_from) (λ q x _ at. once q
+        before = by_place k.nodes from less (λ _ x. x.kind ≡ Dir → x.links ≤ 1) (once from p is_from)
+            (λ q x _ at. once q
             x at)
 
     stored_after : (s s' : Stored) → IsStored k.nodes s → Moves s from name to to_name h s' → IsStored after.nodes s'
@@ -308,5 +309,6 @@ module _ {limits : ServerLimits} {next bytes : ℕ} {k : Kept} {from name to to_
         m.is_from.1 m.can.is_moved m.can.leads to to_name into m.can.to_dir m.can.new_name m.is_into)
 
     pub stored_moved : (s s' : Stored) → IsStored k.nodes s → Moves s from name to to_name h s' → IsStored nodes' s'
-    stored_moved s s' stored moves = rw is_nodes (stored_after limits next bytes k m.sound from name h p kind m.is_from.0
+    stored_moved s s' stored moves = rw is_nodes
+        (stored_after limits next bytes k m.sound from name h p kind m.is_from.0
         m.is_from.1 m.can.is_moved m.can.leads to to_name into m.can.to_dir m.can.new_name m.is_into s s' stored moves)

@@ -17,7 +17,8 @@ unfolding serial_bytes
 serial_back n fits = from_be_bytes-to_be_bytes_8 n fits
 
 same_serial : (a b : ℕ) → a < 2 ^ 64 → b < 2 ^ 64 → serial_bytes a ≡ serial_bytes b → a ≡ b
-same_serial a b fits fits' e = sym (serial_back a fits) ∙ ap (λ l. from_be_bytes w64 (take 8 (drop 8 l))) e ∙ serial_back b fits'
+same_serial a b fits fits' e = sym (serial_back a fits) ∙ ap (λ l. from_be_bytes w64 (take 8 (drop 8 l))) e
+    ∙ serial_back b fits'
 
 module _ (nodes : ByBytes PathNode) (next : ℕ) (serials : AreSerials nodes next) where
   pub kept_fits : (h : List ℕ) (p : PathNode) → get nodes h ≡ Some p → length h ≡ 32

@@ -19,11 +19,13 @@ use Rattle.path_server.proofs.ShownErrors.{Alike, node_err, read_err, read_link_
 use Rattle.path_server.proofs.ShownLaws.{get-shown_names, node_at-shown, node_at-any, names_at-shown, bytes_at-shown, text_at-shown, target-shown, kind_of-shown, size_of-shown, links_of-shown, edited-shown, with_bytes-shown, with_node-shown, named-shown, removed-shown, renamed-shown}
 
 -- what a mapped value comes from
-pub mapped_some : {A B : Type 0} (f : A → B) (o : Option A) (y : B) → option_map f o ≡ Some y → (x : A) × (o ≡ Some x) × (f x ≡ y)
+pub mapped_some : {A B : Type 0} (f : A → B) (o : Option A) (y : B) → option_map f o ≡ Some y →
+    (x : A) × (o ≡ Some x) × (f x ≡ y)
 mapped_some f None y e = absurd (let bad : None ≡ Some y = e in cc)
 mapped_some f (Some x) y e = (x, refl, (let g : Some (f x) ≡ Some y = e in let h : f x ≡ y = cc in h))
 
-counts_err : (T U : Type 0) (before now : ℕ) (e : SrvErr) → Counts {T = T} before now (Err e) → Counts {T = U} before now (Err e)
+counts_err : (T U : Type 0) (before now : ℕ) (e : SrvErr) → Counts {T = T} before now (Err e) →
+    Counts {T = U} before now (Err e)
 counts_err T U before now Fault c = c
 counts_err T U before now e c = c
 
@@ -69,7 +71,8 @@ module _ (shown : List ℕ → List ℕ) (twice : (h : List ℕ) → shown (show
 
   carried : {T : Type 0} (done seen : Tree → T → Option Tree → Type 0) (applies told : Tree → SrvErr → Type 0) →
       ((t : Tree) (e : SrvErr) → Alike (applies t e) (told (over t) e)) → (old new : Server) →
-      ((t : Tree) (x : T) (n : Option Tree) → done t x n → seen (over t) x (option_map over n)) → (r : Result T SrvErr) →
+      ((t : Tree) (x : T) (n : Option Tree) → done t x n → seen (over t) x (option_map over n)) →
+          (r : Result T SrvErr) →
       Called (λ t. Outcome (done t) (applies t) t) old r new →
       Called (λ t. Outcome (seen t) (told t) t) (out old) r (out new)
   carried done seen applies told alike old new along (Ok x) c =
@@ -84,7 +87,8 @@ module _ (shown : List ℕ → List ℕ) (twice : (h : List ℕ) → shown (show
           IsSomeAnd (node_at (over t) (shown q)) (IsAttr (over t) (shown q) a)
       attr_seen t a some =
           let n = some_and (node_at t q) (IsAttr t q a) some in
-          is_some_and (IsAttr (over t) (shown q) a) (node_at-shown shown twice t q ∙ ap (option_map (shown_node shown)) n.1)
+          is_some_and (IsAttr (over t) (shown q) a)
+              (node_at-shown shown twice t q ∙ ap (option_map (shown_node shown)) n.1)
           (record {
             kind = n.2.kind ∙ sym (kind_of-shown shown twice n.0.content);
             number = n.2.number;
@@ -116,8 +120,10 @@ module _ (shown : List ℕ → List ℕ) (twice : (h : List ℕ) → shown (show
       read_inside : (offset count : ℕ) (r : Result (Vec ℕ Global) SrvErr) → Read old q offset count r new →
           Read (out old) (shown q) offset count r (out new)
       read_inside offset count r c = carried
-          (λ t (v : Vec ℕ Global) n. (option_map (λ b. take count (drop offset b)) (bytes_at t q) ≡ Some v.items) × (n ≡ Some t))
-          (λ t (v : Vec ℕ Global) n. (option_map (λ b. take count (drop offset b)) (bytes_at t (shown q)) ≡ Some v.items) × (n ≡ Some t))
+          (λ t (v : Vec ℕ Global) n. (option_map (λ b. take count (drop offset b)) (bytes_at t q) ≡ Some v.items)
+              × (n ≡ Some t))
+          (λ t (v : Vec ℕ Global) n.
+              (option_map (λ b. take count (drop offset b)) (bytes_at t (shown q)) ≡ Some v.items) × (n ≡ Some t))
           (λ t. ContentErr bytes_in q t) (λ t. ContentErr bytes_in (shown q) t) (λ t. read_err shown twice t q) old new
           (λ t v n d. (
             ap (option_map (λ b. take count (drop offset b))) (bytes_at-shown shown twice t q) ∙ d.0,
@@ -129,7 +135,8 @@ module _ (shown : List ℕ → List ℕ) (twice : (h : List ℕ) → shown (show
       read_link_inside r c = carried
           (λ t (v : Vec ℕ Global) n. (text_at t q ≡ Some v.items) × (n ≡ Some t))
           (λ t (v : Vec ℕ Global) n. (text_at t (shown q) ≡ Some v.items) × (n ≡ Some t))
-          (λ t. ContentErr text_in q t) (λ t. ContentErr text_in (shown q) t) (λ t. read_link_err shown twice t q) old new
+          (λ t. ContentErr text_in q t) (λ t. ContentErr text_in (shown q) t)
+              (λ t. read_link_err shown twice t q) old new
           (λ t v n d. (text_at-shown shown twice t q ∙ d.0, ap (option_map over) d.1)) r c
 
       bytes_edited : (t : Tree) (f : List ℕ → List ℕ) (n : Option Tree) → n ≡ Some (edited t q (with_bytes f)) →
@@ -141,7 +148,8 @@ module _ (shown : List ℕ → List ℕ) (twice : (h : List ℕ) → shown (show
           Write (out old) (shown q) offset piece r (out new)
       write_inside offset piece r c = carried
           (λ t. Wrote t q offset piece) (λ t. Wrote t (shown q) offset piece)
-          (λ t. WriteErr old.limits q offset (length piece) t) (λ t. WriteErr old.limits (shown q) offset (length piece) t)
+          (λ t. WriteErr old.limits q offset (length piece) t)
+              (λ t. WriteErr old.limits (shown q) offset (length piece) t)
           (λ t. write_err shown twice t old.limits q offset (length piece)) old new
           (λ t count n d. record {
             some = d.some;
@@ -161,15 +169,21 @@ module _ (shown : List ℕ → List ℕ) (twice : (h : List ℕ) → shown (show
     -- NAMES
 
     module _ (dir name : List ℕ) where
-      lookup_err_inside : (e : SrvErr) → Lookup old dir name (Err e) new → Lookup (out old) (shown dir) name (Err e) (out new)
+      lookup_err_inside : (e : SrvErr) → Lookup old dir name (Err e) new →
+          Lookup (out old) (shown dir) name (Err e) (out new)
       lookup_err_inside e c = carried_err
-          (λ t h n. (target t dir name ≡ Some h) × (n ≡ Some t)) (λ t h n. (target t (shown dir) name ≡ Some h) × (n ≡ Some t))
-          (λ t. LookupErr dir name t) (λ t. LookupErr (shown dir) name t) (λ t. lookup_err shown twice t dir name) old new e c
+          (λ t h n. (target t dir name ≡ Some h) × (n ≡ Some t))
+              (λ t h n. (target t (shown dir) name ≡ Some h) × (n ≡ Some t))
+          (λ t. LookupErr dir name t) (λ t. LookupErr (shown dir) name t)
+              (λ t. lookup_err shown twice t dir name) old new e c
 
-      lookup_ok_inside : (x : List ℕ) → Lookup old dir name (Ok x) new → Lookup (out old) (shown dir) name (Ok (shown x)) (out new)
+      lookup_ok_inside : (x : List ℕ) → Lookup old dir name (Ok x) new →
+          Lookup (out old) (shown dir) name (Ok (shown x)) (out new)
       lookup_ok_inside x c = carried_ok
-          (λ t h n. (target t dir name ≡ Some h) × (n ≡ Some t)) (λ t h n. (target t (shown dir) name ≡ Some h) × (n ≡ Some t))
-          (λ t. LookupErr dir name t) (λ t. LookupErr (shown dir) name t) (λ t. lookup_err shown twice t dir name) old new
+          (λ t h n. (target t dir name ≡ Some h) × (n ≡ Some t))
+              (λ t h n. (target t (shown dir) name ≡ Some h) × (n ≡ Some t))
+          (λ t. LookupErr dir name t) (λ t. LookupErr (shown dir) name t)
+              (λ t. lookup_err shown twice t dir name) old new
           x (shown x) (λ t n d. (target_at shown twice t dir name x d.0, ap (option_map over) d.1)) c
 
       module _ (content : Content) (bytes : ℕ) where
@@ -197,7 +211,8 @@ module _ (shown : List ℕ → List ℕ) (twice : (h : List ℕ) → shown (show
               new_handle = node_at-shown shown twice t x ∙ ap (option_map (shown_node shown)) d.new_handle;
               after = ap (option_map over) d.after ∙ ap Some (
                   named-shown shown twice (with_node t x (new_node d.number content)) dir name x
-                  ∙ ap (λ u. named u (shown dir) name (shown x)) (with_node-shown shown twice t x (new_node d.number content)));
+                  ∙ ap (λ u. named u (shown dir) name (shown x))
+                      (with_node-shown shown twice t x (new_node d.number content)));
             }) c
 
       link_inside : (h : List ℕ) (r : Result (Unit {0}) SrvErr) → Link old h dir name r new →
@@ -208,19 +223,23 @@ module _ (shown : List ℕ → List ℕ) (twice : (h : List ℕ) → shown (show
           (λ t. link_err shown twice t old.limits h dir name) old new
           (λ t _ n d. ap (option_map over) d ∙ ap Some (named-shown shown twice t dir name h)) r c
 
-      removed_seen : (t : Tree) (n : Option Tree) → Removed t dir name n → Removed (over t) (shown dir) name (option_map over n)
+      removed_seen : (t : Tree) (n : Option Tree) → Removed t dir name n →
+          Removed (over t) (shown dir) name (option_map over n)
       removed_seen t n d =
           let h = some_and (target t dir name) (λ h. n ≡ Some (let_go (unnamed t dir name) h)) d in
           is_some_and (λ h. option_map over n ≡ Some (let_go (unnamed (over t) (shown dir) name) h))
           (target_at shown twice t dir name h.0 h.1)
           (ap (option_map over) h.2 ∙ ap Some (removed-shown shown twice t dir name h.0))
 
-      remove_inside : (r : Result (Unit {0}) SrvErr) → Remove old dir name r new → Remove (out old) (shown dir) name r (out new)
+      remove_inside : (r : Result (Unit {0}) SrvErr) → Remove old dir name r new →
+          Remove (out old) (shown dir) name r (out new)
       remove_inside r c = carried (λ t _. Removed t dir name) (λ t _. Removed t (shown dir) name)
-          (λ t. RemoveErr dir name t) (λ t. RemoveErr (shown dir) name t) (λ t. remove_err shown twice t dir name) old new
+          (λ t. RemoveErr dir name t) (λ t. RemoveErr (shown dir) name t)
+              (λ t. remove_err shown twice t dir name) old new
           (λ t _ n d. removed_seen t n d) r c
 
-      rmdir_inside : (r : Result (Unit {0}) SrvErr) → Rmdir old dir name r new → Rmdir (out old) (shown dir) name r (out new)
+      rmdir_inside : (r : Result (Unit {0}) SrvErr) → Rmdir old dir name r new →
+          Rmdir (out old) (shown dir) name r (out new)
       rmdir_inside r c = carried (λ t _. Removed t dir name) (λ t _. Removed t (shown dir) name)
           (λ t. RmdirErr dir name t) (λ t. RmdirErr (shown dir) name t) (λ t. rmdir_err shown twice t dir name) old new
           (λ t _ n d. removed_seen t n d) r c
@@ -229,7 +248,8 @@ module _ (shown : List ℕ → List ℕ) (twice : (h : List ℕ) → shown (show
           Rename (out old) (shown dir) name (shown to) to_name r (out new)
       rename_inside to to_name r c = carried
           (λ t _ n. IsSomeAnd (target t dir name) (λ h. n ≡ Some (renamed t dir name to to_name h)))
-          (λ t _ n. IsSomeAnd (target t (shown dir) name) (λ h. n ≡ Some (renamed t (shown dir) name (shown to) to_name h)))
+          (λ t _ n. IsSomeAnd (target t (shown dir) name)
+              (λ h. n ≡ Some (renamed t (shown dir) name (shown to) to_name h)))
           (λ t. RenameErr dir name to to_name t) (λ t. RenameErr (shown dir) name (shown to) to_name t)
           (λ t. rename_err shown twice t dir name to to_name) old new
           (λ t _ n d.
@@ -241,7 +261,8 @@ module _ (shown : List ℕ → List ℕ) (twice : (h : List ℕ) → shown (show
     -- LISTS
 
     module _ (rows seen : List Listed)
-        (same : (k : ℕ) → slice_get seen k ≡ option_map (λ (row : Listed). let x : Listed = record row { handle = shown row.handle } in x) (slice_get rows k)) where
+        (same : (k : ℕ) → slice_get seen k ≡ option_map
+            (λ (row : Listed). let x : Listed = record row { handle = shown row.handle } in x) (slice_get rows k)) where
       abbrev shown_listed : Listed → Listed
       shown_listed row = record row { handle = shown row.handle }
 
@@ -261,7 +282,8 @@ module _ (shown : List ℕ → List ℕ) (twice : (h : List ℕ) → shown (show
         once = λ j k a b at_j at_k alike.
             let x = mapped_some shown_listed (slice_get rows j) a (sym (same j) ∙ at_j) in
             let y = mapped_some shown_listed (slice_get rows k) b (sym (same k) ∙ at_k) in
-            l.once j k x.0 y.0 x.1 y.1 (ap (λ (r : Listed). r.name) x.2 ∙ alike ∙ sym (ap (λ (r : Listed). r.name) y.2));
+            l.once j k x.0 y.0 x.1 y.1
+                (ap (λ (r : Listed). r.name) x.2 ∙ alike ∙ sym (ap (λ (r : Listed). r.name) y.2));
       }
 
     module _ (dir : List ℕ) where
@@ -272,7 +294,9 @@ module _ (shown : List ℕ → List ℕ) (twice : (h : List ℕ) → shown (show
           (λ t. DirErr dir t) (λ t. DirErr (shown dir) t) (λ t. dir_err shown twice t dir) old new e c
 
       list_ok_inside : (rows seen : Vec Listed Global) →
-          ((k : ℕ) → slice_get seen.items k ≡ option_map (λ (row : Listed). let x : Listed = record row { handle = shown row.handle } in x) (slice_get rows.items k)) →
+          ((k : ℕ) → slice_get seen.items k ≡ option_map
+              (λ (row : Listed). let x : Listed = record row { handle = shown row.handle } in x)
+              (slice_get rows.items k)) →
           ListNames old dir (Ok rows) new → ListNames (out old) (shown dir) (Ok seen) (out new)
       list_ok_inside rows seen same c = carried_ok
           (λ t (rows : Vec Listed Global) n. IsSomeAnd (names_at t dir) (Lists rows.items) × (n ≡ Some t))
@@ -295,10 +319,13 @@ module _ (shown : List ℕ → List ℕ) (twice : (h : List ℕ) → shown (show
     fresh_seen n f = record {
       root = shown f.root;
       number = f.number;
-      after = ap (option_map over) f.after ∙ ap (λ nodes. let u : Tree = record { root = shown f.root; nodes = nodes } in Some u)
+      after = ap (option_map over) f.after
+          ∙ ap (λ nodes. let u : Tree = record { root = shown f.root; nodes = nodes } in Some u)
           (rekeyed-insert shown twice (shown_node shown) empty f.root (new_node f.number (NamesOf empty))
-          ∙ ap (λ m. insert m (shown f.root) (shown_node shown (new_node f.number (NamesOf empty)))) (rekeyed-empty shown twice (shown_node shown))
-          ∙ ap (λ m. insert empty (shown f.root) (new_node f.number (NamesOf m))) (rekeyed-empty (λ name. name) (λ _. refl) shown));
+          ∙ ap (λ m. insert m (shown f.root) (shown_node shown (new_node f.number (NamesOf empty))))
+              (rekeyed-empty shown twice (shown_node shown))
+          ∙ ap (λ m. insert empty (shown f.root) (new_node f.number (NamesOf m)))
+              (rekeyed-empty (λ name. name) (λ _. refl) shown));
     }
 
     pub wipe_seen : (r : Result (Unit {0}) SrvErr) → Wipe old r new → Wipe (out old) r (out new)
@@ -346,7 +373,9 @@ module _ (shown : List ℕ → List ℕ) (twice : (h : List ℕ) → shown (show
       list_err_told e c = subst (λ x. ListNames (out old) x (Err e) (out new)) meets (list_err_inside q e c)
 
       pub list_ok_told : (rows seen : Vec Listed Global) →
-          ((k : ℕ) → slice_get seen.items k ≡ option_map (λ (row : Listed). let x : Listed = record row { handle = shown row.handle } in x) (slice_get rows.items k)) →
+          ((k : ℕ) → slice_get seen.items k ≡ option_map
+              (λ (row : Listed). let x : Listed = record row { handle = shown row.handle } in x)
+              (slice_get rows.items k)) →
           ListNames old q (Ok rows) new → ListNames (out old) h (Ok seen) (out new)
       list_ok_told rows seen same c = subst (λ x. ListNames (out old) x (Ok seen) (out new)) meets
           (list_ok_inside q rows seen same c)
@@ -364,12 +393,14 @@ module _ (shown : List ℕ → List ℕ) (twice : (h : List ℕ) → shown (show
         module _ (content : Content) (bytes : ℕ) where
           pub make_err_told : (e : SrvErr) → Make content bytes old q name (Err e) new →
               Make (shown_content shown content) bytes (out old) h name (Err e) (out new)
-          make_err_told e c = subst (λ x. Make (shown_content shown content) bytes (out old) x name (Err e) (out new)) meets
+          make_err_told e c = subst
+              (λ x. Make (shown_content shown content) bytes (out old) x name (Err e) (out new)) meets
               (make_err_inside q name content bytes e c)
 
           pub make_ok_told : (x y : List ℕ) → y ≡ shown x → Make content bytes old q name (Ok x) new →
               Make (shown_content shown content) bytes (out old) h name (Ok y) (out new)
-          make_ok_told x y is c = subst (λ z. Make (shown_content shown content) bytes (out old) h name (Ok z) (out new)) (sym is)
+          make_ok_told x y is c = subst
+              (λ z. Make (shown_content shown content) bytes (out old) h name (Ok z) (out new)) (sym is)
               (subst (λ z. Make (shown_content shown content) bytes (out old) z name (Ok (shown x)) (out new)) meets
               (make_ok_inside q name content bytes x c))
 
@@ -397,5 +428,7 @@ module _ (shown : List ℕ → List ℕ) (twice : (h : List ℕ) → shown (show
 
         pub rename_told : (x y to_name : List ℕ) → x ≡ shown y → (r : Result (Unit {0}) SrvErr) →
             Rename old q name x to_name r new → Rename (out old) h name y to_name r (out new)
-        rename_told x y to_name is r c = subst (λ z. Rename (out old) h name z to_name r (out new)) (ap shown is ∙ twice y)
-            (subst (λ z. Rename (out old) z name (shown x) to_name r (out new)) meets (rename_inside q name x to_name r c))
+        rename_told x y to_name is r c = subst (λ z. Rename (out old) h name z to_name r (out new))
+            (ap shown is ∙ twice y)
+            (subst (λ z. Rename (out old) z name (shown x) to_name r (out new)) meets
+                (rename_inside q name x to_name r c))

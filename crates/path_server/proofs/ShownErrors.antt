@@ -36,7 +36,8 @@ along Q e a = (λ p. subst Q (sym e) (a.0 p), λ q. a.1 (subst Q e q))
 
 none_alike : {A B : Type 0} (f : A → B) (o : Option A) → Alike (o ≡ None) (option_map f o ≡ None)
 none_alike f None = (λ _. refl, λ _. refl)
-none_alike f (Some x) = (λ e. absurd (let bad : Some x ≡ None = e in cc), λ e. absurd (let bad : Some (f x) ≡ None = e in cc))
+none_alike f (Some x) =
+    (λ e. absurd (let bad : Some x ≡ None = e in cc), λ e. absurd (let bad : Some (f x) ≡ None = e in cc))
 
 some_alike : {A B : Type 0} (f : A → B) (o : Option A) → Alike (IsSome o) (IsSome (option_map f o))
 some_alike f None = same
@@ -77,11 +78,13 @@ module _ (shown : List ℕ → List ℕ) (twice : (h : List ℕ) → shown (show
   lacks_name : (dir name : List ℕ) → Alike (LacksName t dir name) (LacksName now (shown dir) name)
   lacks_name dir name = along (λ o. IsSomeAnd o (λ (m : Names). get m name ≡ None)) (names_at-shown shown twice t dir)
       (some_and_alike (shown_names shown) (λ (m : Names). get m name ≡ None) (λ m. get m name ≡ None)
-      (λ m. along (λ o. o ≡ None) (get-shown_names shown twice m name) (none_alike shown (get m name))) (names_at t dir))
+      (λ m. along (λ o. o ≡ None) (get-shown_names shown twice m name) (none_alike shown (get m name)))
+          (names_at t dir))
 
   no_names_at_all : (m : Names) → Alike (m ≢ empty) (shown_names shown m ≢ empty)
   no_names_at_all m = (
-    λ some e. some (empty_of_len m (sym (len-shown_names shown twice m) ∙ ap len e ∙ len-empty (slice_cmp nat_cmp) (List ℕ))),
+    λ some e. some (empty_of_len m
+        (sym (len-shown_names shown twice m) ∙ ap len e ∙ len-empty (slice_cmp nat_cmp) (List ℕ))),
     λ some e. some (empty_of_len (shown_names shown m) (len-shown_names shown twice m ∙ ap len e
         ∙ len-empty (slice_cmp nat_cmp) (List ℕ))),
   )
@@ -93,7 +96,8 @@ module _ (shown : List ℕ → List ℕ) (twice : (h : List ℕ) → shown (show
   is_dir : (q : List ℕ) → Alike (IsDir t q) (IsDir now (shown q))
   is_dir q = along IsSome (names_at-shown shown twice t q) (some_alike (shown_names shown) (names_at t q))
 
-  target_found : (o : Option (List ℕ)) (y : List ℕ) → option_map shown o ≡ Some y → (x : List ℕ) × (o ≡ Some x) × (y ≡ shown x)
+  target_found : (o : Option (List ℕ)) (y : List ℕ) → option_map shown o ≡ Some y →
+      (x : List ℕ) × (o ≡ Some x) × (y ≡ shown x)
   target_found None y e = absurd (let bad : None ≡ Some y = e in cc)
   target_found (Some x) y e = (x, refl, (let f : Some (shown x) ≡ Some y = e in let g : y ≡ shown x = cc in g))
 
@@ -117,7 +121,8 @@ module _ (shown : List ℕ → List ℕ) (twice : (h : List ℕ) → shown (show
   at_or_below : (h q : List ℕ) → Alike (IsAtOrBelow t h q) (IsAtOrBelow now (shown h) (shown q))
   at_or_below h q = (λ p. (p.0, leads_shown p.0 h q p.1), λ p. (p.0, leads_inside p.0 h q p.1))
 
-  no_room : (limits : ServerLimits) (nodes less more : ℕ) → Alike (NoRoom limits t nodes less more) (NoRoom limits now nodes less more)
+  no_room : (limits : ServerLimits) (nodes less more : ℕ) →
+      Alike (NoRoom limits t nodes less more) (NoRoom limits now nodes less more)
   no_room limits nodes less more =
       along (λ n. IsOver limits (n + nodes) ((used now - less) + more)) (len-shown shown twice t)
       (along (λ n. IsOver limits (len t.nodes + nodes) ((n - less) + more)) (used-shown shown twice t) same)

@@ -77,10 +77,12 @@ module _ (shown : List ℕ → List ℕ) (twice : (h : List ℕ) → shown (show
   -- WHAT IS IN IT
 
   module _ (t : Tree) where
-    pub node_at-shown : (q : List ℕ) → node_at (shown_tree shown t) (shown q) ≡ option_map (shown_node shown) (node_at t q)
+    pub node_at-shown : (q : List ℕ) → node_at (shown_tree shown t) (shown q) ≡ option_map (shown_node shown)
+        (node_at t q)
     node_at-shown q = get-rekeyed_at shown twice (shown_node shown) t.nodes q
 
-    pub node_at-any : (h : List ℕ) → node_at (shown_tree shown t) h ≡ option_map (shown_node shown) (node_at t (shown h))
+    pub node_at-any : (h : List ℕ) → node_at (shown_tree shown t) h ≡ option_map (shown_node shown)
+        (node_at t (shown h))
     node_at-any h = get-rekeyed shown twice (shown_node shown) t.nodes h
 
     names_of_some : (o : Option Node) →
@@ -183,7 +185,8 @@ module _ (shown : List ℕ → List ℕ) (twice : (h : List ℕ) → shown (show
     edited-shown f g same q = elim (node_at t q) as (λ o. node_at t q ≡ o →
         shown_tree shown (edited t q f) ≡ edited (shown_tree shown t) (shown q) g) [
           | None ↦ λ is. ap (shown_tree shown) (edited-none t q f is)
-              ∙ sym (edited-none (shown_tree shown t) (shown q) g (node_at-shown q ∙ ap (option_map (shown_node shown)) is))
+              ∙ sym (edited-none (shown_tree shown t) (shown q) g
+                  (node_at-shown q ∙ ap (option_map (shown_node shown)) is))
           | Some n ↦ λ is. ap (shown_tree shown) (edited-some t q f n is) ∙ with_node-shown q (f n)
               ∙ ap (with_node (shown_tree shown t) (shown q)) (same n)
               ∙ sym (edited-some (shown_tree shown t) (shown q) g (shown_node shown n) (node_at-shown q
@@ -206,8 +209,10 @@ module _ (shown : List ℕ → List ℕ) (twice : (h : List ℕ) → shown (show
   with_bytes-shown f n = ap (λ c. let m : Node = record n { content = c } in m) (by_content n.content)
     where
       by_content : (c : Content) →
-          shown_content shown (elim c as (λ _. Content) [ BytesOf b ↦ BytesOf (f b) | TextOf x ↦ TextOf x | NamesOf m ↦ NamesOf m ])
-          ≡ elim (shown_content shown c) as (λ _. Content) [ BytesOf b ↦ BytesOf (f b) | TextOf x ↦ TextOf x | NamesOf m ↦ NamesOf m ]
+          shown_content shown (elim c as
+              (λ _. Content) [ BytesOf b ↦ BytesOf (f b) | TextOf x ↦ TextOf x | NamesOf m ↦ NamesOf m ])
+          ≡ elim (shown_content shown c) as
+              (λ _. Content) [ BytesOf b ↦ BytesOf (f b) | TextOf x ↦ TextOf x | NamesOf m ↦ NamesOf m ]
       by_content (BytesOf b) = refl
       by_content (TextOf x) = refl
       by_content (NamesOf m) = refl
@@ -217,8 +222,10 @@ module _ (shown : List ℕ → List ℕ) (twice : (h : List ℕ) → shown (show
   with_names-shown f g same n = ap (λ c. let m : Node = record n { content = c } in m) (by_content n.content)
     where
       by_content : (c : Content) →
-          shown_content shown (elim c as (λ _. Content) [ BytesOf b ↦ BytesOf b | TextOf x ↦ TextOf x | NamesOf m ↦ NamesOf (f m) ])
-          ≡ elim (shown_content shown c) as (λ _. Content) [ BytesOf b ↦ BytesOf b | TextOf x ↦ TextOf x | NamesOf m ↦ NamesOf (g m) ]
+          shown_content shown (elim c as
+              (λ _. Content) [ BytesOf b ↦ BytesOf b | TextOf x ↦ TextOf x | NamesOf m ↦ NamesOf (f m) ])
+          ≡ elim (shown_content shown c) as
+              (λ _. Content) [ BytesOf b ↦ BytesOf b | TextOf x ↦ TextOf x | NamesOf m ↦ NamesOf (g m) ]
       by_content (BytesOf b) = refl
       by_content (TextOf x) = refl
       by_content (NamesOf m) = ap NamesOf (same m)
@@ -249,12 +256,15 @@ module _ (shown : List ℕ → List ℕ) (twice : (h : List ℕ) → shown (show
       shown_tree shown (by_target t from name to to_name h o)
       ≡ by_target (shown_tree shown t) (shown from) name (shown to) to_name (shown h) (option_map shown o)) [
         | None ↦ moved_name
-        | Some r ↦ (elim (bytes_eq r h) as (λ b. shown_tree shown (if b then t else let_go (named (unnamed t from name) to to_name h) r)
-            ≡ (if b then shown_tree shown t else let_go (named (unnamed (shown_tree shown t) (shown from) name) (shown to) to_name (shown h)) (shown r))) [
+        | Some r ↦ (elim (bytes_eq r h) as
+            (λ b. shown_tree shown (if b then t else let_go (named (unnamed t from name) to to_name h) r)
+            ≡ (if b then shown_tree shown t else let_go
+                (named (unnamed (shown_tree shown t) (shown from) name) (shown to) to_name (shown h)) (shown r))) [
               | true ↦ refl
               | false ↦ let_go-shown (named (unnamed t from name) to to_name h) r
                   ∙ ap (λ u. let_go u (shown r)) moved_name
-            ]) ∙ ap (λ b. if b then shown_tree shown t else let_go (named (unnamed (shown_tree shown t) (shown from) name) (shown to) to_name (shown h)) (shown r))
+            ]) ∙ ap (λ b. if b then shown_tree shown t else let_go
+                (named (unnamed (shown_tree shown t) (shown from) name) (shown to) to_name (shown h)) (shown r))
             (sym (same_handles r h))
       ]) ∙ ap (by_target (shown_tree shown t) (shown from) name (shown to) to_name (shown h))
       (sym (target-shown t to to_name))

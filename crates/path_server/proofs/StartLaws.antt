@@ -68,7 +68,8 @@ unfolding shown_at
 shown_inside starts h r e = from_first inside (to_be_bytes w64 starts) refl (length-number starts) h r e
 
 same_number : (a b : ℕ) → a < 2 ^ 64 → b < 2 ^ 64 → to_be_bytes w64 a ≡ to_be_bytes w64 b → a ≡ b
-same_number a b fits fits' e = sym (from_be_bytes-to_be_bytes_8 a fits) ∙ ap (from_be_bytes w64) e ∙ from_be_bytes-to_be_bytes_8 b fits'
+same_number a b fits fits' e = sym (from_be_bytes-to_be_bytes_8 a fits) ∙ ap (from_be_bytes w64) e
+    ∙ from_be_bytes-to_be_bytes_8 b fits'
 
 -- A handle that was shown after other starts is none that begins with zeros inside.
 pub shown_before : (before starts : ℕ) → before < 2 ^ 64 → starts < 2 ^ 64 → before ≢ starts →
@@ -81,11 +82,13 @@ shown_before before starts fits fits' apart r is =
     let start : take 8 h ≡ old = take_at old r 8 (length-number before) in
     elim (bytes_or_not old inside) [
       | inl zeros ↦
-          let out : exchanged inside new h ≡ new ++ r = from_first inside new refl (length-number starts) h r (ap (λ x. x ++ r) zeros) in
+          let out : exchanged inside new h ≡ new ++ r = from_first inside new refl (length-number starts) h r
+              (ap (λ x. x ++ r) zeros) in
           let begins : new ≡ inside = sym (take_at new r 8 (length-number starts)) ∙ sym (ap (take 8) out) ∙ is in
           apart (same_number before starts fits fits' (zeros ∙ sym begins))
       | inr ne ↦
-          let out : exchanged inside new h ≡ h = neither inside new refl (length-number starts) h (λ e. ne (sym start ∙ e))
+          let out : exchanged inside new h ≡ h = neither inside new refl (length-number starts) h
+              (λ e. ne (sym start ∙ e))
           (λ e. apart (same_number before starts fits fits' (sym start ∙ e))) in
           ne (sym start ∙ sym (ap (take 8) out) ∙ is)
     ]

@@ -57,7 +57,8 @@ module _ (nodes : ByBytes PathNode) (h : List ℕ) (x : PathNode) where
             ap (λ (p : PathNode). p.kind) (some_same (get-insert_same nodes h x) y.1) ∙ y.2),
       )
       | inr ne ↦ (
-        λ there. subst (λ o. IsSomeAnd o IsDirNode) (sym (get-insert_other nodes h x q ne)) ((stored.dirs q).0 (ap is_some
+        λ there. subst (λ o. IsSomeAnd o IsDirNode) (sym (get-insert_other nodes h x q ne))
+            ((stored.dirs q).0 (ap is_some
             (sym (adds.others q ne)) ∙ there)),
         λ there. ap is_some (adds.others q ne) ∙ (stored.dirs q).1 (subst (λ o. IsSomeAnd o IsDirNode) (get-insert_other
             nodes h x q ne) there),

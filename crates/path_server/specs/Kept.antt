@@ -24,7 +24,8 @@ kept_as root nodes contents paths = record { root = root; nodes = nodes; content
 -- the node that is kept so, with these bytes and names
 abbrev pub node_of : PathNode → List ℕ → Names → Node
 node_of p bytes names =
-    record { number = p.number; mode = p.mode; uid = p.uid; gid = p.gid; content = content_of p.kind bytes names }
+    record { number = p.number; mode = p.mode; uid = p.uid; gid = p.gid;
+        content = content_of p.kind bytes names }
 
 -- the node under a handle that is kept so
 abbrev pub full_node : Contents → Paths → List ℕ → PathNode → Node
@@ -32,7 +33,8 @@ full_node contents paths h p = node_of p (bytes_under contents h) (names_of path
 
 -- the nodes, each with its bytes or its names
 unfoldable pub nodes_of : ByBytes PathNode → Contents → Paths → ByBytes Node
-nodes_of nodes contents paths = from_entries (map (λ e. (e.0, full_node contents paths e.0 e.1)) (entries nodes))
+nodes_of nodes contents paths = from_entries
+    (map (λ e. (e.0, full_node contents paths e.0 e.1)) (entries nodes))
 
 -- the tree
 abbrev pub the_tree : Kept → Tree

@@ -9,7 +9,8 @@ abbrev pub exchanged : List ℕ → List ℕ → List ℕ → List ℕ
 exchanged a b h = if bytes_eq (take 8 h) a then b ++ drop 8 h else
     (if bytes_eq (take 8 h) b then a ++ drop 8 h else h)
 
--- The handle that is shown after so many starts, from the one inside, and the other way: it begins with their number
+-- The handle that is shown after so many starts, from the one inside, and the other way: it begins with their
+-- number
 -- where the one inside begins with zeros.
 unfoldable pub shown_at : ℕ → List ℕ → List ℕ
 shown_at starts h = exchanged (replicate 8 0) (to_be_bytes w64 starts) h
@@ -42,4 +43,5 @@ shown_server shown s = record s { tree = option_map (shown_tree shown) s.tree }
 
 -- no handle of the first tree, if there is one, is of a node of the second
 abbrev pub NoneStays : Option Tree → Option Tree → Type 0
-NoneStays old new = (t u : Tree) → old ≡ Some t → new ≡ Some u → (h : List ℕ) → IsSome (node_at t h) → node_at u h ≡ None
+NoneStays old new = (t u : Tree) → old ≡ Some t → new ≡ Some u → (h : List ℕ) → IsSome (node_at t h) →
+    node_at u h ≡ None

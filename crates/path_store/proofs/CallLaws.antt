@@ -31,7 +31,8 @@ started root keys rows dirs no_keys no_rows dirs_are fits = (
       has_row = λ path key is. absurd (no_key path key is);
       once = λ path other key is _. absurd
           (no_key path key is);
-      used = λ key there. absurd (let bad : true ≡ false = sym there ∙ ap (λ l. is_some (slice_index_or l key None)) no_rows in cc);
+      used = λ key there. absurd
+          (let bad : true ≡ false = sym there ∙ ap (λ l. is_some (slice_index_or l key None)) no_rows in cc);
     };
     tree = record {
       placed = λ path row is. absurd (no_row path row is);

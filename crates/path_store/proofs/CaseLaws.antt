@@ -21,7 +21,8 @@ nothing_listed names dir (r ∷ rows) fits list none name = absurd (let e = eqb-
 nothing_listed names dir [] fits list none name = elim (none_or_some (get names (dir ++ name))) as (λ _. get names
     (dir ++ name) ≡ None) [
       | inl e ↦ e
-      | inr h ↦ absurd (let row = list.complete name h.0 (get-names_of dir fits names name ∙ h.1) in some_none row.1 refl)
+      | inr h ↦ absurd (let row = list.complete name h.0 (get-names_of dir fits names name ∙ h.1) in
+          some_none row.1 refl)
     ]
 
 -- those of the rows that lead to a handle are among the rest

@@ -148,7 +148,8 @@ led_none : (o : Option PathRow) (path : List ℕ) (dirs : Dirs) (x : List ℕ) �
 led_none None path dirs x none = none
 led_none (Some row) path dirs x none = elim (bytes_or_not row.to x) as (λ _. get (led_to (Some row) path dirs)
     x ≡ None) [
-      | inl s ↦ ap (λ b. get (if b then insert dirs row.to path else dirs) x) (ap is_some (ap (get dirs) s ∙ none)) ∙ none
+      | inl s ↦ ap (λ b. get (if b then insert dirs row.to path else dirs) x) (ap is_some (ap (get dirs) s ∙ none))
+          ∙ none
       | inr ne ↦ led_other row path dirs x ne ∙ none
     ]
 

@@ -276,6 +276,7 @@ module _ (keys : Keys) (rows : Rows) (dirs : Dirs) (tree : IsTree (row_at keys r
   no_row dir top name is flat none = elim (none_or_some (row_at keys rows (joined top name))) as (λ _. row_at keys
       rows (joined top name) ≡ None) [
         | inl e ↦ e
-        | inr r ↦ absurd (some_none (get-names_in dir top name is flat ∙ ap (option_map (λ (row : PathRow). row.to)) r.1)
+        | inr r ↦ absurd (some_none
+            (get-names_in dir top name is flat ∙ ap (option_map (λ (row : PathRow). row.to)) r.1)
             none)
       ]

@@ -20,7 +20,8 @@ pub record PutsRow (keys : Keys) (rows : Rows) (path : List ℕ) (row : PathRow)
   pub rows_are : Updates rows new_rows key (Some row)
 
 -- the row under a path is gone
-pub record TakesRow (keys : Keys) (rows : Rows) (path : List ℕ) (new_keys : Keys) (new_rows : Rows) : Type 0 where
+pub record TakesRow (keys : Keys) (rows : Rows) (path : List ℕ) (new_keys : Keys)
+    (new_rows : Rows) : Type 0 where
   pub keys_are : new_keys ≡ remove keys path
   pub rows_are : (key : ℕ) → get keys path ≡ Some key → Updates rows new_rows key None
 
@@ -37,11 +38,13 @@ led_to (Some row) path dirs = if is_some (get dirs row.to) then insert dirs row.
 -- the directories to which these paths lead have moved one after the other
 abbrev pub moved_dirs : Rows → List ℕ → List ℕ → List (List ℕ × ℕ) → Dirs → Dirs
 moved_dirs rows old new [] dirs = dirs
-moved_dirs rows old new (e ∷ es) dirs = moved_dirs rows old new es (led_to (slot rows e.1) (moved_path old new e.0)
+moved_dirs rows old new (e ∷ es) dirs = moved_dirs rows old new es
+    (led_to (slot rows e.1) (moved_path old new e.0)
     dirs)
 
 -- all that lies under one path lies under another, and the row there is this
-pub record MovesUnder (old new : List ℕ) (row : PathRow) (keys : Keys) (rows : Rows) (dirs : Dirs) (new_keys : Keys)
+pub record MovesUnder (old new : List ℕ) (row : PathRow) (keys : Keys) (rows : Rows) (dirs : Dirs)
+    (new_keys : Keys)
     (new_rows : Rows) (new_dirs : Dirs) : Type 0 where
   pub entries : List (List ℕ × ℕ)
   pub key : ℕ

@@ -60,7 +60,8 @@ stored_as whole keys rows dirs = record { whole = whole; dirs = dirs; names = na
 -- each key has a row, and one path, and each row stands under one
 pub record IsKeyed (keys : Keys) (rows : Rows) : Type 0 where
   pub has_row : (path : List ℕ) (key : ℕ) → get keys path ≡ Some key → IsSome (slot rows key)
-  pub once : (path other : List ℕ) (key : ℕ) → get keys path ≡ Some key → get keys other ≡ Some key → path ≡ other
+  pub once : (path other : List ℕ) (key : ℕ) → get keys path ≡ Some key → get keys other ≡ Some key →
+      path ≡ other
   pub used : (key : ℕ) → IsSome (slot rows key) → (path : List ℕ) × (get keys path ≡ Some key)
 
 -- a row's path is its directory's path with its name

@@ -23,7 +23,8 @@ names_of names dir = from_entries (entries_in dir (entries names))
 -- so many names lead from one node to the other
 abbrev pub LeadsIn : Paths → ℕ → List ℕ → List ℕ → Type 0
 LeadsIn names zero h q = h ≡ q
-LeadsIn names (suc k) h q = (name : List ℕ) × (x : List ℕ) × (get names (h ++ name) ≡ Some x) × LeadsIn names k x q
+LeadsIn names (suc k) h q = (name : List ℕ) × (x : List ℕ) × (get names (h ++ name) ≡ Some x)
+    × LeadsIn names k x q
 
 -- a node is the other or lies below it
 abbrev pub IsAtOrBelow : Paths → List ℕ → List ℕ → Type 0
@@ -47,7 +48,8 @@ moved_path old new path = if is_under old path then new ++ drop (length old) pat
 
 -- THE STORE
 
--- Its directories with their paths, and its names. After want of memory it is not whole, and nothing else is said of it.
+-- Its directories with their paths, and its names. After want of memory it is not whole, and nothing else is
+-- said of it.
 pub record Stored : Type 0 where
   pub whole : Bool
   pub dirs : ByBytes (List ℕ)

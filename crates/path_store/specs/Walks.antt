@@ -38,20 +38,25 @@ pair r = (r.name, r.handle)
 abbrev pub listed_at : Option PathRow → List ℕ → ℕ → List ℕ → Option (List ℕ × List ℕ)
 listed_at None dir size path = None
 listed_at (Some row) dir size path =
-    if bytes_eq row.dir dir then (if nat_lt size (length path) then Some (drop (size + 1) path, row.to) else None)
+    if bytes_eq row.dir dir then
+        (if nat_lt size (length path) then Some (drop (size + 1) path, row.to) else None)
     else None
 
 -- the names of these paths
 abbrev pub listed_of : Rows → List ℕ → ℕ → List (List ℕ × ℕ) → List (List ℕ × List ℕ)
 listed_of rows dir size [] = []
-listed_of rows dir size (e ∷ es) = option_to_list (listed_at (slot rows e.1) dir size e.0) ++ listed_of rows dir size
+listed_of rows dir size (e ∷ es) = option_to_list (listed_at (slot rows e.1) dir size e.0)
+    ++ listed_of rows dir size
     es
 
 -- a list of the rows of a directory whose path this is
 pub record ListsRows (dir top : List ℕ) (keys : Keys) (rows : Rows) (listed : List Listed) : Type 0 where
   pub sound : (k : ℕ) (r : Listed) → slice_get listed k ≡ Some r →
-      (row : PathRow) × (row_at keys rows (joined top r.name) ≡ Some row) × (row.dir ≡ dir) × (row.to ≡ r.handle)
-  pub complete : (name : List ℕ) (row : PathRow) → row_at keys rows (joined top name) ≡ Some row → row.dir ≡ dir →
+      (row : PathRow) × (row_at keys rows (joined top r.name) ≡ Some row) × (row.dir ≡ dir)
+          × (row.to ≡ r.handle)
+  pub complete : (name : List ℕ) (row : PathRow) → row_at keys rows (joined top name) ≡ Some row →
+      row.dir ≡ dir →
       (k : ℕ) × (slice_get listed k ≡ Some (record { name = name; handle = row.to }))
-  pub once : (j k : ℕ) (a b : Listed) → slice_get listed j ≡ Some a → slice_get listed k ≡ Some b → a.name ≡ b.name →
+  pub once : (j k : ℕ) (a b : Listed) → slice_get listed j ≡ Some a → slice_get listed k ≡ Some b →
+      a.name ≡ b.name →
       j ≡ k

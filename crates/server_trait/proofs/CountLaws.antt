@@ -42,7 +42,8 @@ leading q n = names_to q n.content
 pub links-with_node : (t : Tree) (h : List ℕ) (n : Node) (q : List ℕ) → node_at t h ≡ None →
     links (with_node t h n) q ≡ links t q + names_to q n.content
 unfolding links
-links-with_node t h n q none = let e = total-insert_new nat_list_cmp_total (leading q) t.nodes h n none in omega (arith, e)
+links-with_node t h n q none = let e = total-insert_new nat_list_cmp_total (leading q) t.nodes h n none in
+    omega (arith, e)
 
 pub links-edited : (t : Tree) (h : List ℕ) (f : Node → Node) (n : Node) (q : List ℕ) → node_at t h ≡ Some n →
     links (edited t h f) q + names_to q n.content ≡ links t q + names_to q (f n).content
@@ -80,4 +81,5 @@ subdirs-insert_new t m name h none = total-insert_new nat_list_cmp_total (λ x. 
 
 pub subdirs-most : (t : Tree) (m : Names) → subdirs t m ≤ len m
 unfolding subdirs total
-subdirs-most t m = let most = sum_most (is_dir_at t) (entries m) in let size = len-entries m in omega (arith, most, size)
+subdirs-most t m = let most = sum_most (is_dir_at t) (entries m) in let size = len-entries m in
+    omega (arith, most, size)

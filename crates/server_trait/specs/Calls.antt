@@ -37,7 +37,8 @@ Attr old h r new = Called (λ t. Outcome (λ a after. IsSomeAnd (node_at t h) (I
 -- `set_attr`
 abbrev pub SetAttr : Server → List ℕ → ℕ → ℕ → ℕ → Result Unit SrvErr → Server → Type 0
 SetAttr old h mode uid gid r new =
-    Called (λ t. Outcome (λ _ after. after ≡ Some (edited t h (with_attr mode uid gid))) (NodeErr h t) t) old r new
+    Called (λ t. Outcome (λ _ after. after ≡ Some (edited t h (with_attr mode uid gid)))
+        (NodeErr h t) t) old r new
 
 -- FILES AND LINKS
 
@@ -50,7 +51,8 @@ ContentErr view h t e = ⊥
 -- `read`: all bytes from the offset up to the count or the end
 abbrev pub Read : Server → List ℕ → ℕ → ℕ → Result (Vec ℕ Global) SrvErr → Server → Type 0
 Read old h offset count r new =
-    Called (λ t. Outcome (λ v after. (option_map (λ b. take count (drop offset b)) (bytes_at t h) ≡ Some v.items) ×
+    Called (λ t. Outcome (λ v after.
+        (option_map (λ b. take count (drop offset b)) (bytes_at t h) ≡ Some v.items) ×
     (after ≡ Some t)) (ContentErr bytes_in h t) t) old r new
 
 -- `read_link`: the text
@@ -66,7 +68,8 @@ WriteErr limits h offset count t Full =
 WriteErr limits h offset count t e = ContentErr bytes_in h t e
 
 -- so many bytes of the piece stand at the offset, at least one
-pub record Wrote (t : Tree) (h : List ℕ) (offset : ℕ) (piece : List ℕ) (count : ℕ) (new : Option Tree) : Type 0 where
+pub record Wrote (t : Tree) (h : List ℕ) (offset : ℕ) (piece : List ℕ) (count : ℕ)
+    (new : Option Tree) : Type 0 where
   pub some : 1 ≤ count
   pub most : count ≤ length piece
   pub after : new ≡ Some (edited t h (with_bytes (overwritten offset (take count piece))))
@@ -84,7 +87,8 @@ SetSizeErr limits h size t e = ContentErr bytes_in h t e
 -- `set_size`: the file is cut, or filled with zeros
 abbrev pub SetSize : Server → List ℕ → ℕ → Result Unit SrvErr → Server → Type 0
 SetSize old h size r new = Called
-    (λ t. Outcome (λ _ after. after ≡ Some (edited t h (with_bytes (resized size)))) (SetSizeErr old.limits h size t)
+    (λ t. Outcome (λ _ after. after ≡ Some (edited t h (with_bytes (resized size))))
+        (SetSizeErr old.limits h size t)
     t) old r new
 
 -- NAMES
@@ -103,19 +107,22 @@ LookupErr dir name t e = DirErr dir t e
 -- `lookup`
 abbrev pub Lookup : Server → List ℕ → List ℕ → Result (List ℕ) SrvErr → Server → Type 0
 Lookup old dir name r new = Called
-    (λ t. Outcome (λ h after. (target t dir name ≡ Some h) × (after ≡ Some t)) (LookupErr dir name t) t) old r new
+    (λ t. Outcome (λ h after. (target t dir name ≡ Some h) × (after ≡ Some t))
+        (LookupErr dir name t) t) old r new
 
 -- each name of the directory stands in the list once, in any order
 pub record Lists (rows : List Listed) (names : Names) : Type 0 where
   pub sound : (k : ℕ) (row : Listed) → slice_get rows k ≡ Some row → get names row.name ≡ Some row.handle
   pub complete : (name h : List ℕ) → get names name ≡ Some h → (k : ℕ) ×
       (slice_get rows k ≡ Some (record { name = name; handle = h }))
-  pub once : (j k : ℕ) (a b : Listed) → slice_get rows j ≡ Some a → slice_get rows k ≡ Some b → a.name ≡ b.name → j ≡ k
+  pub once : (j k : ℕ) (a b : Listed) → slice_get rows j ≡ Some a → slice_get rows k ≡ Some b →
+      a.name ≡ b.name → j ≡ k
 
 -- `list`
 abbrev pub ListNames : Server → List ℕ → Result (Vec Listed Global) SrvErr → Server → Type 0
 ListNames old dir r new = Called
-    (λ t. Outcome (λ rows after. IsSomeAnd (names_at t dir) (Lists rows.items) × (after ≡ Some t)) (DirErr dir t) t)
+    (λ t. Outcome (λ rows after. IsSomeAnd (names_at t dir) (Lists rows.items) × (after ≡ Some t))
+        (DirErr dir t) t)
     old r new
 
 -- NEW NAMES
@@ -131,7 +138,8 @@ abbrev pub IsNewNumber : Tree → ℕ → Type 0
 IsNewNumber t number = (q : List ℕ) (n : Node) → node_at t q ≡ Some n → n.number ≢ number
 
 -- the name leads to a new node, whose handle and number are new
-pub record Made (t : Tree) (dir name : List ℕ) (content : Content) (h : List ℕ) (new : Option Tree) : Type 0 where
+pub record Made (t : Tree) (dir name : List ℕ) (content : Content) (h : List ℕ)
+    (new : Option Tree) : Type 0 where
   pub number : ℕ
   pub new_number : IsNewNumber t number
   pub new_handle : node_at t h ≡ None
@@ -208,19 +216,22 @@ pub record Replaces (P : List ℕ → List ℕ → Type 0) (t : Tree) (from name
   pub apart : replaced ≢ moved
   pub holds : P moved replaced
 
--- the errors of a call that moves a name: a directory replaces only an empty directory, and does not move below itself
+-- the errors of a call that moves a name: a directory replaces only an empty directory, and does not move below
+-- itself
 abbrev pub RenameErr : List ℕ → List ℕ → List ℕ → List ℕ → Tree → SrvErr → Type 0
 RenameErr from name to to_name t Stale = IsStale t from ⊎ IsStale t to
 RenameErr from name to to_name t NotDir = (IsNo names_in t from ⊎ IsNo names_in t to) ⊎
     Replaces (λ h r. IsDir t h × IsNo names_in t r) t from name to to_name
 RenameErr from name to to_name t NoEnt = LacksName t from name
-RenameErr from name to to_name t WrongKind = Replaces (λ h r. IsNo names_in t h × IsDir t r) t from name to to_name
+RenameErr from name to to_name t WrongKind = Replaces
+    (λ h r. IsNo names_in t h × IsDir t r) t from name to to_name
 RenameErr from name to to_name t NotEmpty = Replaces (λ _ r. HasNames t r) t from name to to_name
 RenameErr from name to to_name t Subtree = IsSomeAnd (target t from name) (λ h. IsDir t h × IsAtOrBelow t h to)
 RenameErr from name to to_name t Refused = HasName t to to_name
 RenameErr from name to to_name t e = ⊥
 
--- The first name goes and the second leads to its node. A node that it led to loses this name. Where both names are of
+-- The first name goes and the second leads to its node. A node that it led to loses this name. Where both names
+-- are of
 -- one node nothing changes.
 abbrev pub renamed : Tree → List ℕ → List ℕ → List ℕ → List ℕ → List ℕ → Tree
 renamed t from name to to_name h = elim (target t to to_name) [
@@ -258,7 +269,8 @@ pub record IsMovedNode (new : List ℕ → List ℕ) (n n' : Node) : Type 0 wher
 -- the tree, where each node is under a new handle, and no two are under one
 pub record IsMovedTree (new : List ℕ → List ℕ) (t t' : Tree) : Type 0 where
   pub root : t'.root ≡ new t.root
-  pub there : (q : List ℕ) (n : Node) → node_at t q ≡ Some n → IsSomeAnd (node_at t' (new q)) (IsMovedNode new n)
+  pub there : (q : List ℕ) (n : Node) → node_at t q ≡ Some n →
+      IsSomeAnd (node_at t' (new q)) (IsMovedNode new n)
   pub back : (q : List ℕ) → IsSome (node_at t' q) → (p : List ℕ) × (q ≡ new p) × IsSome (node_at t p)
   pub apart : (p q : List ℕ) → IsSome (node_at t p) → IsSome (node_at t q) → new p ≡ new q → p ≡ q
 

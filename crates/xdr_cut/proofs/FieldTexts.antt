@@ -10,13 +10,15 @@ use Rattle.xdr_cut.specs.Fields.{least, Field, number, blob, exactly, maybe, Giv
 
 -- ---- what reading gives, scanning gives
 
-placed_ok : {V : Type 0} (c : Cursor) (r : Result (V × ℕ) (Option XdrKind)) (x : V × Cursor) → placed c r ≡ Ok x → (n : ℕ) × (r ≡ Ok (x.0, n)) × (x.1 ≡ skip n c)
+placed_ok : {V : Type 0} (c : Cursor) (r : Result (V × ℕ) (Option XdrKind)) (x : V × Cursor) → placed c r ≡ Ok x →
+    (n : ℕ) × (r ≡ Ok (x.0, n)) × (x.1 ≡ skip n c)
 placed_ok c (Ok y) x e =
     let same : (y.0, skip y.1 c) ≡ x = cc in
     (y.1, ap (λ v. Ok (v, y.1)) (ap (λ p. p.0) same), sym (ap (λ p. p.1) same))
 placed_ok c (Err k) x e = absurd cc
 
-bind_ok : {A B E : Type 0} (r : Result A E) (f : A → Result B E) (y : B) → (r >>= f) ≡ Ok y → (x : A) × (r ≡ Ok x) × (f x ≡ Ok y)
+bind_ok : {A B E : Type 0} (r : Result A E) (f : A → Result B E) (y : B) → (r >>= f) ≡ Ok y →
+    (x : A) × (r ≡ Ok x) × (f x ≡ Ok y)
 bind_ok (Ok x) f y e = (x, refl, e)
 bind_ok (Err k) f y e = absurd cc
 
@@ -26,10 +28,12 @@ reads_scans (gives a) c x e = let same : (a, c) ≡ x = cc in ap (λ y. Ok y) sa
 reads_scans (item i need next) c x e =
     let b = bind_ok (item_at i c) (λ y. reads (plain (next y.0)) y.1) x e in
     let w = placed_ok c (item_in i c.rest) b.0 b.1 in
-    let one : scan_item i need c ≡ Ok b.0 = ap (scanned c (need c.rest)) w.1 ∙ ap (λ (d : Cursor). Ok (b.0.0, d)) (sym w.2) in
+    let one : scan_item i need c ≡ Ok b.0 = ap (scanned c (need c.rest)) w.1
+        ∙ ap (λ (d : Cursor). Ok (b.0.0, d)) (sym w.2) in
     ap (λ r. r >>= λ y. scans (next y.0) y.1) one ∙ reads_scans (next b.0.0) b.0.1 x b.2
 
-pub scans_again : {A : Type 0} (p : Plan A) (value : A) (text more : List ℕ) → Spells (plain p) value text → scans p (record { at = 0; rest = text ++ more }) ≡ Ok (value, record { at = 0 + length text; rest = more })
+pub scans_again : {A : Type 0} (p : Plan A) (value : A) (text more : List ℕ) → Spells (plain p) value text →
+    scans p (record { at = 0; rest = text ++ more }) ≡ Ok (value, record { at = 0 + length text; rest = more })
 scans_again p value text more s = reads_scans p _ _ (reads_again (plain p) value text more 0 s)
 
 -- ---- what the fields of a text are
@@ -79,30 +83,40 @@ pub record Told {A : Type 0} (xs : List Field) (make : Maker xs A) (value : A) (
 behind : (a b c : List ℕ) (text : List ℕ) → text ≡ a ++ b → b ≡ c → text ≡ a ++ c
 behind a b c text e f = e ∙ ap (λ (t : List ℕ). a ++ t) f
 
-arm_told : {A : Type 0} (max : ℕ) (xs : List Field) (make : Maker (maybe max ∷ xs) A) (value : A) (text more : List ℕ) (b : Bool) → text ≡ spell_bool b ++ more
-    → Spells (plain (cond b (item (any_opaque max) (opaque_need max (least xs)) λ x. plan_of xs (make (Some x))) (plan_of xs (make None)))) value more
-    → ((m : Maker xs A) (t : List ℕ) → Spells (plain (plan_of xs m)) value t → Told xs m value t) → Told (maybe max ∷ xs) make value text
+arm_told : {A : Type 0} (max : ℕ) (xs : List Field) (make : Maker (maybe max ∷ xs) A) (value : A) (text more : List ℕ)
+    (b : Bool) → text ≡ spell_bool b ++ more
+    → Spells (plain (cond b (item (any_opaque max) (opaque_need max (least xs)) λ x. plan_of xs (make (Some x)))
+        (plan_of xs (make None)))) value more
+    → ((m : Maker xs A) (t : List ℕ) → Spells (plain (plan_of xs m)) value t → Told xs m value t) →
+        Told (maybe max ∷ xs) make value text
 arm_told max xs make value text more true e s h =
     let r = h (make (Some s.0)) s.1 s.4 in
     record {
       givens = (Some s.0, r.givens);
       is = r.is;
-      text_is = e ∙ ap (λ (t : List ℕ). spell_bool true ++ t) (behind (spell_opaque s.0) s.1 (fields_text xs r.givens) more s.3 r.text_is) ∙ sym (append_assoc (spell_bool true) (spell_opaque s.0) (fields_text xs r.givens));
+      text_is = e ∙ ap (λ (t : List ℕ). spell_bool true ++ t)
+          (behind (spell_opaque s.0) s.1 (fields_text xs r.givens) more s.3 r.text_is)
+          ∙ sym (append_assoc (spell_bool true) (spell_opaque s.0) (fields_text xs r.givens));
       fits = (s.2.1, r.fits);
     }
 arm_told max xs make value text more false e s h =
     let r = h (make None) more s in
-    record { givens = (None, r.givens); is = r.is; text_is = behind (spell_bool false) more (fields_text xs r.givens) text e r.text_is; fits = (tt, r.fits) }
+    record { givens = (None, r.givens); is = r.is; text_is = behind (spell_bool false) more
+        (fields_text xs r.givens) text e r.text_is; fits = (tt, r.fits) }
 
-pub told : (A : Type 0) (xs : List Field) (make : Maker xs A) (value : A) (text : List ℕ) → Spells (plain (plan_of xs make)) value text → Told xs make value text
+pub told : (A : Type 0) (xs : List Field) (make : Maker xs A) (value : A) (text : List ℕ) →
+    Spells (plain (plan_of xs make)) value text → Told xs make value text
 told A [] make value text s = record { givens = tt; is = s.0; text_is = s.1; fits = tt }
 told A (number ranges ∷ xs) make value text s =
     let r = told A xs (make s.0) value s.1 s.4 in
-    record { givens = (s.0, r.givens); is = r.is; text_is = behind (spell_word s.0) s.1 (fields_text xs r.givens) text s.3 r.text_is; fits = (s.2, r.fits) }
+    record { givens = (s.0, r.givens); is = r.is; text_is = behind (spell_word s.0) s.1
+        (fields_text xs r.givens) text s.3 r.text_is; fits = (s.2, r.fits) }
 told A (blob max ∷ xs) make value text s =
     let r = told A xs (make s.0) value s.1 s.4 in
-    record { givens = (s.0, r.givens); is = r.is; text_is = behind (spell_opaque s.0) s.1 (fields_text xs r.givens) text s.3 r.text_is; fits = (s.2.1, r.fits) }
+    record { givens = (s.0, r.givens); is = r.is; text_is = behind (spell_opaque s.0) s.1
+        (fields_text xs r.givens) text s.3 r.text_is; fits = (s.2.1, r.fits) }
 told A (exactly size ∷ xs) make value text s =
     let r = told A xs (make s.0) value s.1 s.4 in
-    record { givens = (s.0, r.givens); is = r.is; text_is = behind (spell_fixed s.0) s.1 (fields_text xs r.givens) text s.3 r.text_is; fits = (s.2, r.fits) }
+    record { givens = (s.0, r.givens); is = r.is; text_is = behind (spell_fixed s.0) s.1
+        (fields_text xs r.givens) text s.3 r.text_is; fits = (s.2, r.fits) }
 told A (maybe max ∷ xs) make value text s = arm_told max xs make value text s.1 s.0 s.3 s.4 (λ m t. told A xs m value t)

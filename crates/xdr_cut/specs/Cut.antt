@@ -1,4 +1,5 @@
--- Formats of which the bytes at hand may be cut: what begins them, and how many bytes a value that begins so needs.
+-- Formats of which the bytes at hand may be cut: what begins them, and how many bytes a value that begins so
+-- needs.
 use Rattle.std.specs.Prelude.{◌≡◌, ◌%◌, ℕ, ◌+◌, ◌<◌, ◌≤◌, IsOk, List, ◌++◌, length, drop, map, Option, Some, None, Result, Ok, Err, IfOk, IsOkAnd, IsErr}
 use Rattle.xdr_core.specs.declared.error.XdrKind.{XdrKind}
 use Rattle.xdr_core.specs.Items.{Item, Value, item_in}
@@ -14,7 +15,8 @@ use Rattle.xdr_cut.specs.declared.error.ScanErr.TheVariants as errors
 -- the bytes are a proper prefix of a spelling, and `need` is the least length of a spelling that begins so
 pub record IsShort {A : Type 0} (g : Grammar A) (bytes : List ℕ) (need : ℕ) : Type 0 where
   pub proper : length bytes < need
-  pub attained : (value : A) × (more : List ℕ) × Spells g value (bytes ++ more) × (length (bytes ++ more) ≡ need)
+  pub attained : (value : A) × (more : List ℕ) × Spells g value (bytes ++ more)
+      × (length (bytes ++ more) ≡ need)
   pub least : (value : A) (more : List ℕ) → Spells g value (bytes ++ more) → need ≤ length (bytes ++ more)
 
 -- no spelling begins the bytes, and they begin none
@@ -32,7 +34,8 @@ abbrev pub value_and_rest : {A : Type 0} → List ℕ → Result (A × Cursor) S
 value_and_rest bytes (Ok x) = Some (x.0, drop x.1.at bytes)
 value_and_rest bytes (Err stop) = None
 
--- The value at the front of the bytes, and the bytes behind it. A number that is no byte counts as its low byte.
+-- The value at the front of the bytes, and the bytes behind it. A number that is no byte counts as its low
+-- byte.
 unfoldable pub front_at : {A : Type 0} → Grammar A → List ℕ → Option (A × List ℕ)
 front_at g bytes =
     value_and_rest bytes (reads g (record { at = 0; rest = map (λ b. b % 256) bytes }))

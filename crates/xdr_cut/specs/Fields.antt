@@ -5,7 +5,8 @@ use Rattle.xdr_core.specs.Items as items
 use Rattle.xdr_cut.specs.Cut.{Plan, gives, item}
 use Rattle.xdr_cut.specs.Needs.{within, word_need, bool_need, piece_need, opaque_need}
 
--- a word of some ranges, opaque data of at most max bytes, of a fixed size, and a bool with an opaque where it is true
+-- a word of some ranges, opaque data of at most max bytes, of a fixed size, and a bool with an opaque where it
+-- is true
 pub data Field : Type 0 where
   number : (ranges : List (ℕ × ℕ)) → Field
   blob : (max : ℕ) → Field

@@ -3,7 +3,8 @@ use Rattle.log_format.proofs.HeaderTexts.{header_found, header_same, header_none
 use Rattle.log_format.proofs.header.read_header.Goals as goal
 
 pub returns-in-Some-clause-found : goal.returns-in-Some-clause-found
-returns-in-Some-clause-found c = header_found c.args.bytes.now c.in-Some.h (λ i. omega (arith, c.type_inv.bytes i)) c.requires c.in-Some.ensures.read
+returns-in-Some-clause-found c = header_found c.args.bytes.now c.in-Some.h
+    (λ i. omega (arith, c.type_inv.bytes i)) c.requires c.in-Some.ensures.read
 
 pub returns-in-Some-clause-only : goal.returns-in-Some-clause-only
 returns-in-Some-clause-only c = λ h s. header_same c.args.bytes.now c.in-Some.h h c.in-Some.ensures.read s

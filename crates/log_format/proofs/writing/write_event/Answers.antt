@@ -7,4 +7,6 @@ pub put_event-requires : goal.put_event-requires
 put_event-requires c = has_within c.args.e.now c.requires
 
 pub returns-clause-again : goal.returns-clause-again
-returns-clause-again c = λ f servers text s. (let e : c.into_bytes.result.items ≡ event_text c.args.e.now = search rules in e) ∙ (event_told f servers c.args.e.now text s).0
+returns-clause-again c = λ f servers text s.
+    (let e : c.into_bytes.result.items ≡ event_text c.args.e.now = search rules in e)
+    ∙ (event_told f servers c.args.e.now text s).0

@@ -62,7 +62,8 @@ invariant_of-self-2 c =
           c.requires.dir.0 c.requires.dir.1 c.args.node.now c.requires.leads c.args.kept c.requires.node.0
           c.requires.node.1 (from_entries c.insert-2.new.self.entries) put s.names c.remove.new.self refl
           c.in_ok-remove.ensures.dropped;
-      stored = λ _. stored_dropped s.limits s.next s.bytes (kept_by s) sound c.args.dir.now c.args.name.now c.args.within
+      stored = λ _. stored_dropped s.limits s.next s.bytes
+          (kept_by s) sound c.args.dir.now c.args.name.now c.args.within
           c.requires.dir.0 c.requires.dir.1 c.args.node.now c.requires.leads c.args.kept c.requires.node.0
           c.requires.node.1 (from_entries c.insert-2.new.self.entries) put s.names c.remove.new.self refl
           c.in_ok-remove.ensures.dropped (s.stored c.requires.held);

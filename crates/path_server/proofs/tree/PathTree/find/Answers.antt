@@ -8,7 +8,8 @@ use Rattle.path_server.proofs.tree.PathTree.find.Goals as goal
 
 pub returns-in-Some : goal.returns-in-Some
 returns-in-Some c = (
-  get-rows c.args.self.now.nodes.entries c.args.node.now ∙ sym c.get.ensures.value ∙ sym c.copied.ensures ∙ c.in-Some.is,
+  get-rows c.args.self.now.nodes.entries c.args.node.now ∙ sym c.get.ensures.value ∙ sym c.copied.ensures
+      ∙ c.in-Some.is,
   same_true the_type (search rules) _ _ (sym c.if-eq.ensures),
 )
 

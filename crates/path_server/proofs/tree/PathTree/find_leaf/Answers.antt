@@ -14,7 +14,8 @@ returns-in-Some c = is_some_and (λ (p : PathNode). p.kind ≡ Dir) (get-rows c.
 
 pub returns-in-Some-2 : goal.returns-in-Some-2
 returns-in-Some-2 c = (
-  get-rows c.args.self.now.nodes.entries c.args.node.now ∙ sym c.get.ensures.value ∙ sym c.copied.ensures ∙ c.in-Some.is,
+  get-rows c.args.self.now.nodes.entries c.args.node.now ∙ sym c.get.ensures.value ∙ sym c.copied.ensures
+      ∙ c.in-Some.is,
   same_false the_type _ _ (sym c.if-eq.ensures),
 )
 

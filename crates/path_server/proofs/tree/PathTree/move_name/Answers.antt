@@ -43,7 +43,8 @@ invariant_of-self-2 c =
     record {
       limited = s.limited;
       sound = λ _. sound_moved m put c.in_ok-rename.ensures.moved.names;
-      stored = λ _. stored_moved m put c.in_ok-rename.ensures.moved.names s.names c.rename.new.self (s.stored c.requires.held)
+      stored = λ _. stored_moved m put c.in_ok-rename.ensures.moved.names s.names c.rename.new.self
+          (s.stored c.requires.held)
           c.in_ok-rename.ensures.moved;
     }
 

@@ -34,7 +34,8 @@ returns-then-self-len c =
     c.in_ok-find.ensures c.args.size (omega (arith, over, same))
 
 pub change-requires-clause-file : goal.change-requires-clause-file
-change-requires-clause-file c = is_some_and (λ (p : PathNode). p.kind ≡ File) c.in_ok-find.ensures.0 c.in_ok-find.ensures.1
+change-requires-clause-file c = is_some_and
+    (λ (p : PathNode). p.kind ≡ File) c.in_ok-find.ensures.0 c.in_ok-find.ensures.1
 
 pub change-requires-clause-room : goal.change-requires-clause-room
 change-requires-clause-room c = let room = c.if-self-len.false in let same = ap length c.get-len.ensures in
