@@ -358,7 +358,13 @@ fn flaky_bench(alloc: Global, call: SrvCall, number: u64) -> Result<Bench, Fail>
     let Ok(server) = PathServer::new(alloc, LIMITS) else {
         return Err("no memory".into());
     };
-    let fails = vec![in alloc; FailAt { call, from: number, to: u64::MAX }]?;
+    let fails = vec![in alloc;
+        FailAt {
+            call,
+            from: number,
+            to: u64::MAX
+        },
+    ]?;
     let server: Srv = Box::new(alloc, Flaky::new(server, fails))?;
     Ok(Bench::new(alloc, vec![in alloc; server]?))
 }

@@ -30,9 +30,11 @@ row : (kind n : ℕ) (xs : List Field) (make : Maker xs Event) (e : Event) (more
 row kind n xs make e more k h s =
     let t = told Event xs make e more s in
     let g = h t.givens t.fits in
-    let small : IsWithin e = subst (λ (d : Event). IsWithin d) (sym t.is) g.1 in
-    (ap event_text t.is ∙ g.0 ∙ ap (λ (r : List ℕ). spell_word n ++ r) (sym t.text_is)
-        ∙ ap (λ (m : ℕ). spell_word m ++ more) (sym (eqb-true kind n k)), small)
+    let small : IsWithin e = subst (λ (d : Event). IsWithin d) (sym t.is) g.1 in (
+      ap event_text t.is ∙ g.0 ∙ ap (λ (r : List ℕ). spell_word n ++ r) (sym t.text_is)
+          ∙ ap (λ (m : ℕ). spell_word m ++ more) (sym (eqb-true kind n k)),
+      small,
+    )
 
 if_text : (G : Type 0) (b : Bool) (p q : Plan Event) (e : Event) (more : List ℕ) →
     (b ≡ true → Spells (plain p) e more → G) → (b ≡ false → Spells (plain q) e more → G) →
@@ -79,52 +81,66 @@ pub fields_told : (f servers kind : ℕ) (e : Event) (more : List ℕ) → IsLas
 unfolding fields_of
 fields_told f servers kind e more last =
     if_text ((event_text e ≡ spell_word kind ++ more) × IsWithin e) (kind == 1) _ _ e more
-        (λ k. row kind 1 (any ∷ any ∷ micros ∷ payload ∷ [])
-        (λ client secs micros b. Request client (time_of secs micros) b) e more k
-        (λ g fits. (four_nil (spell_word 1) (spell_word g.0) (spell_word g.1.0) (spell_word g.1.1.0)
-        (spell_opaque g.1.1.1.0), (micros_small g.1.1.0 fits.1.1.0.1, fits.1.1.1.0)))) λ k1.
+    (λ k. row kind 1 (any ∷ any ∷ micros ∷ payload ∷ [])
+    (λ client secs micros b. Request client (time_of secs micros) b) e more k
+    (λ g fits. (
+      four_nil (spell_word 1) (spell_word g.0) (spell_word g.1.0) (spell_word g.1.1.0)
+          (spell_opaque g.1.1.1.0),
+      (micros_small g.1.1.0 fits.1.1.0.1, fits.1.1.1.0),
+    ))) λ k1.
     if_text ((event_text e ≡ spell_word kind ++ more) × IsWithin e) (kind == 2) _ _ e more
-        (λ k. row kind 2 (replica f ∷ []) (λ r. Run r) e more k
-        (λ g fits. (one_nil (spell_word 2) (spell_word g.0), tt))) λ k2.
+    (λ k. row kind 2 (replica f ∷ []) (λ r. Run r) e more k
+    (λ g fits. (one_nil (spell_word 2) (spell_word g.0), tt))) λ k2.
     if_text ((event_text e ≡ spell_word kind ++ more) × IsWithin e) (kind == 3) _ _ e more
-        (λ k. row kind 3 [] RunAll e more k (λ g fits. (end_nil (spell_word 3), tt))) λ k3.
+    (λ k. row kind 3 [] RunAll e more k (λ g fits. (end_nil (spell_word 3), tt))) λ k3.
     if_text ((event_text e ≡ spell_word kind ++ more) × IsWithin e) (kind == 4) _ _ e more
-        (λ k. row kind 4 (replica f ∷ []) (λ r. Reboot r) e more k
-        (λ g fits. (one_nil (spell_word 4) (spell_word g.0), tt))) λ k4.
+    (λ k. row kind 4 (replica f ∷ []) (λ r. Reboot r) e more k
+    (λ g fits. (one_nil (spell_word 4) (spell_word g.0), tt))) λ k4.
     if_text ((event_text e ≡ spell_word kind ++ more) × IsWithin e) (kind == 5) _ _ e more
-        (λ k. row kind 5 (replica f ∷ from 1 4294967295 ∷ []) (λ r n. Fetch r n) e more k
-        (λ g fits. (two_nil (spell_word 5) (spell_word g.0) (spell_word g.1.0), tt))) λ k5.
+    (λ k. row kind 5 (replica f ∷ from 1 4294967295 ∷ []) (λ r n. Fetch r n) e more k
+    (λ g fits. (two_nil (spell_word 5) (spell_word g.0) (spell_word g.1.0), tt))) λ k5.
     if_text ((event_text e ≡ spell_word kind ++ more) × IsWithin e) (kind == 6) _ _ e more
-        (λ k. row kind 6 (replica f ∷ any ∷ micros ∷ payload ∷ [])
-        (λ r secs micros b. Rogue r (time_of secs micros) b) e more k
-        (λ g fits. (four_nil (spell_word 6) (spell_word g.0) (spell_word g.1.0) (spell_word g.1.1.0)
-        (spell_opaque g.1.1.1.0), (micros_small g.1.1.0 fits.1.1.0.1, fits.1.1.1.0)))) λ k6.
+    (λ k. row kind 6 (replica f ∷ any ∷ micros ∷ payload ∷ [])
+    (λ r secs micros b. Rogue r (time_of secs micros) b) e more k
+    (λ g fits. (
+      four_nil (spell_word 6) (spell_word g.0) (spell_word g.1.0) (spell_word g.1.1.0)
+          (spell_opaque g.1.1.1.0),
+      (micros_small g.1.1.0 fits.1.1.0.1, fits.1.1.1.0),
+    ))) λ k6.
     if_text ((event_text e ≡ spell_word kind ++ more) × IsWithin e) (kind == 7) _ _ e more
-        (λ k. row kind 7 (replica f ∷ []) (λ r. Skip r) e more k
-        (λ g fits. (one_nil (spell_word 7) (spell_word g.0), tt))) λ k7.
+    (λ k. row kind 7 (replica f ∷ []) (λ r. Skip r) e more k
+    (λ g fits. (one_nil (spell_word 7) (spell_word g.0), tt))) λ k7.
     if_text ((event_text e ≡ spell_word kind ++ more) × IsWithin e) (kind == 8) _ _ e more
-        (λ k. row kind 8 (replica f ∷ any ∷ any ∷ payload ∷ []) (λ r index offset b. Scratch r index offset b) e more k
-        (λ g fits. (four_nil (spell_word 8) (spell_word g.0) (spell_word g.1.0) (spell_word g.1.1.0)
-        (spell_opaque g.1.1.1.0), fits.1.1.1.0))) λ k8.
+    (λ k. row kind 8 (replica f ∷ any ∷ any ∷ payload ∷ []) (λ r index offset b. Scratch r index offset b) e more k
+    (λ g fits. (
+      four_nil (spell_word 8) (spell_word g.0) (spell_word g.1.0) (spell_word g.1.1.0)
+          (spell_opaque g.1.1.1.0),
+      fits.1.1.1.0,
+    ))) λ k8.
     if_text ((event_text e ≡ spell_word kind ++ more) × IsWithin e) (kind == 9) _ _ e more
-        (λ k. row kind 9 (replica f ∷ any ∷ maybe 65536 ∷ []) (λ r place w. LieReply r place (word_of w)) e more k
-        (λ g fits. lie_row f g.0 g.1.0 g.1.1.0 fits.1.1.0)) λ k9.
+    (λ k. row kind 9 (replica f ∷ any ∷ maybe 65536 ∷ []) (λ r place w. LieReply r place (word_of w)) e more k
+    (λ g fits. lie_row f g.0 g.1.0 g.1.1.0 fits.1.1.0)) λ k9.
     if_text ((event_text e ≡ spell_word kind ++ more) × IsWithin e) (kind == 10) _ _ e more
-        (λ k. row kind 10 (replica f ∷ any ∷ exactly 32 ∷ []) (λ r place root. LieRoot r place root) e more k
-        (λ g fits. (three_nil (spell_word 10) (spell_word g.0) (spell_word g.1.0) (spell_fixed g.1.1.0),
-        omega (arith, fits.1.1.0)))) λ k10.
+    (λ k. row kind 10 (replica f ∷ any ∷ exactly 32 ∷ []) (λ r place root. LieRoot r place root) e more k
+    (λ g fits. (
+      three_nil (spell_word 10) (spell_word g.0) (spell_word g.1.0) (spell_fixed g.1.1.0),
+      omega (arith, fits.1.1.0),
+    ))) λ k10.
     if_text ((event_text e ≡ spell_word kind ++ more) × IsWithin e) (kind == 11) _ _ e more
-        (λ k. row kind 11 (replica f ∷ any ∷ any ∷ payload ∷ []) (λ r level n b. LieItem r level n b) e more k
-        (λ g fits. (four_nil (spell_word 11) (spell_word g.0) (spell_word g.1.0) (spell_word g.1.1.0)
-        (spell_opaque g.1.1.1.0), fits.1.1.1.0))) λ k11.
+    (λ k. row kind 11 (replica f ∷ any ∷ any ∷ payload ∷ []) (λ r level n b. LieItem r level n b) e more k
+    (λ g fits. (
+      four_nil (spell_word 11) (spell_word g.0) (spell_word g.1.0) (spell_word g.1.1.0)
+          (spell_opaque g.1.1.1.0),
+      fits.1.1.1.0,
+    ))) λ k11.
     if_text ((event_text e ≡ spell_word kind ++ more) × IsWithin e) (kind == 12) _ _ e more
-        (λ k. row kind 12 (replica f ∷ []) (λ r. Wipe r) e more k
-        (λ g fits. (one_nil (spell_word 12) (spell_word g.0), tt))) λ k12.
+    (λ k. row kind 12 (replica f ∷ []) (λ r. Wipe r) e more k
+    (λ g fits. (one_nil (spell_word 12) (spell_word g.0), tt))) λ k12.
     if_text ((event_text e ≡ spell_word kind ++ more) × IsWithin e) (kind == 13) _ _ e more
-        (λ k. row kind 13 (replica f ∷ from (3 * f + 1) (servers - 1) ∷ []) (λ r spare. Swap r spare) e more k
-        (λ g fits. (two_nil (spell_word 13) (spell_word g.0) (spell_word g.1.0), tt))) λ k13.
+    (λ k. row kind 13 (replica f ∷ from (3 * f + 1) (servers - 1) ∷ []) (λ r spare. Swap r spare) e more k
+    (λ g fits. (two_nil (spell_word 13) (spell_word g.0) (spell_word g.1.0), tt))) λ k13.
     row kind 14 [] End e more (last k1 k2 k3 k4 k5 k6 k7 k8 k9 k10 k11 k12 k13)
-        (λ g fits. (end_nil (spell_word 14), tt))
+    (λ g fits. (end_nil (spell_word 14), tt))
 
 kind_last : (f servers kind : ℕ) → is_kind f servers kind ≡ true → IsLast kind
 kind_last f servers kind ok a b d e g h i j k l m n o = grind
@@ -153,18 +169,31 @@ fixed_small b le = omega (arith, fixed_len b, size_le (length b) 32 le)
 
 words_small : (a b d e : ℕ) (x : List ℕ) → length x ≤ 65540 →
     length (spell_word a ++ (spell_word b ++ (spell_word d ++ (spell_word e ++ x)))) ≤ 65556
-words_small a b d e x le = omega
-    (arith, le, length-append (spell_word a) (spell_word b ++ (spell_word d ++ (spell_word e ++ x))),
-    length-append (spell_word b) (spell_word d ++ (spell_word e ++ x)),
-    length-append (spell_word d) (spell_word e ++ x), length-append (spell_word e) x, word_len a, word_len b,
-    word_len d, word_len e)
+words_small a b d e x le = omega (
+  arith,
+  le,
+  length-append (spell_word a) (spell_word b ++ (spell_word d ++ (spell_word e ++ x))),
+  length-append (spell_word b) (spell_word d ++ (spell_word e ++ x)),
+  length-append (spell_word d) (spell_word e ++ x),
+  length-append (spell_word e) x,
+  word_len a,
+  word_len b,
+  word_len d,
+  word_len e,
+)
 
 three_small : (a b d : ℕ) (x : List ℕ) → length x ≤ 65544 →
     length (spell_word a ++ (spell_word b ++ (spell_word d ++ x))) ≤ 65556
-three_small a b d x le = omega
-    (arith, le, length-append (spell_word a) (spell_word b ++ (spell_word d ++ x)),
-    length-append (spell_word b) (spell_word d ++ x), length-append (spell_word d) x, word_len a, word_len b,
-    word_len d)
+three_small a b d x le = omega (
+  arith,
+  le,
+  length-append (spell_word a) (spell_word b ++ (spell_word d ++ x)),
+  length-append (spell_word b) (spell_word d ++ x),
+  length-append (spell_word d) x,
+  word_len a,
+  word_len b,
+  word_len d,
+)
 
 two_small : (a b : ℕ) → length (spell_word a ++ spell_word b) ≤ 65556
 two_small a b = omega (arith, length-append (spell_word a) (spell_word b), word_len a, word_len b)
@@ -173,9 +202,14 @@ one_small : (a : ℕ) → length (spell_word a) ≤ 65556
 one_small a = omega (arith, word_len a)
 
 words_three : (a b d : ℕ) → length (spell_word a ++ (spell_word b ++ spell_word d)) ≤ 65556
-words_three a b d = omega
-    (arith, length-append (spell_word a) (spell_word b ++ spell_word d), length-append (spell_word b) (spell_word d),
-    word_len a, word_len b, word_len d)
+words_three a b d = omega (
+  arith,
+  length-append (spell_word a) (spell_word b ++ spell_word d),
+  length-append (spell_word b) (spell_word d),
+  word_len a,
+  word_len b,
+  word_len d,
+)
 
 cast_small : (w : Word) → IsShortWord w → length (cast_text w) ≤ 65544
 cast_small Silent h = omega (arith, word_len 0)

@@ -54,27 +54,27 @@ fields_plan f servers kind le lim ok =
     let r = replica_open f le in
     let big : 65536 < 2 ^ 32 = omega arith in
     if_plan (kind == 1) _ _
-        (λ e. is_plan Event (any ∷ any ∷ micros ∷ payload ∷ []) _ (any_open, (any_open, (micros_open, (big, tt))))) λ e.
+    (λ e. is_plan Event (any ∷ any ∷ micros ∷ payload ∷ []) _ (any_open, (any_open, (micros_open, (big, tt))))) λ e.
     if_plan (kind == 2) _ _ (λ e. is_plan Event (replica f ∷ []) _ (r, tt)) λ e.
     if_plan (kind == 3) _ _ (λ e. tt) λ e.
     if_plan (kind == 4) _ _ (λ e. is_plan Event (replica f ∷ []) _ (r, tt)) λ e.
     if_plan (kind == 5) _ _
-        (λ e. is_plan Event (replica f ∷ from 1 4294967295 ∷ []) _ (r, (((omega arith, omega arith), tt), tt))) λ e.
+    (λ e. is_plan Event (replica f ∷ from 1 4294967295 ∷ []) _ (r, (((omega arith, omega arith), tt), tt))) λ e.
     if_plan (kind == 6) _ _
-        (λ e. is_plan Event (replica f ∷ any ∷ micros ∷ payload ∷ []) _ (r, (any_open, (micros_open, (big, tt))))) λ e.
+    (λ e. is_plan Event (replica f ∷ any ∷ micros ∷ payload ∷ []) _ (r, (any_open, (micros_open, (big, tt))))) λ e.
     if_plan (kind == 7) _ _ (λ e. is_plan Event (replica f ∷ []) _ (r, tt)) λ e.
     if_plan (kind == 8) _ _
-        (λ e. is_plan Event (replica f ∷ any ∷ any ∷ payload ∷ []) _ (r, (any_open, (any_open, (big, tt))))) λ e.
+    (λ e. is_plan Event (replica f ∷ any ∷ any ∷ payload ∷ []) _ (r, (any_open, (any_open, (big, tt))))) λ e.
     if_plan (kind == 9) _ _
-        (λ e. is_plan Event (replica f ∷ any ∷ maybe 65536 ∷ []) (λ r place w. LieReply r place (word_of w))
-        (r, (any_open, (big, tt)))) λ e.
+    (λ e. is_plan Event (replica f ∷ any ∷ maybe 65536 ∷ []) (λ r place w. LieReply r place (word_of w))
+    (r, (any_open, (big, tt)))) λ e.
     if_plan (kind == 10) _ _ (λ e. is_plan Event (replica f ∷ any ∷ exactly 32 ∷ []) _ (r, (any_open, (tt, tt)))) λ e.
     if_plan (kind == 11) _ _
-        (λ e. is_plan Event (replica f ∷ any ∷ any ∷ payload ∷ []) _ (r, (any_open, (any_open, (big, tt))))) λ e.
+    (λ e. is_plan Event (replica f ∷ any ∷ any ∷ payload ∷ []) _ (r, (any_open, (any_open, (big, tt))))) λ e.
     if_plan (kind == 12) _ _ (λ e. is_plan Event (replica f ∷ []) _ (r, tt)) λ e.
     if_plan (kind == 13) _ _
-        (λ e. is_plan Event (replica f ∷ from (3 * f + 1) (servers - 1) ∷ []) _
-        (r, (swap_room f servers lim (is_thirteen f servers kind e ok), tt))) λ e.
+    (λ e. is_plan Event (replica f ∷ from (3 * f + 1) (servers - 1) ∷ []) _
+    (r, (swap_room f servers lim (is_thirteen f servers kind e ok), tt))) λ e.
     tt
 
 kind_small : (f servers n : ℕ) → is_kind f servers n ≡ true → n ≤ 14
@@ -94,13 +94,13 @@ kind_means f servers bytes why fits e = elim (cases_lt (length bytes) 4) [
       elim (least_big bytes lt) [
         | inl z ↦ let u : eqb (least_word bytes) 0 ≡ true = grind (arith, nat_tests, z) in
             rw (t, u) (cut_short (word (is_kind f servers)) (behind_kind f servers) bytes
-                (drop (length bytes) (spell_word 3)) 3 4 0 (omega arith, refl)
-                (completes bytes 3 lt fits (omega (arith, z)) (most_three bytes lt)) (least_gives RunAll)
-                (word_len 3) lt
+            (drop (length bytes) (spell_word 3)) 3 4 0 (omega arith, refl)
+            (completes bytes 3 lt fits (omega (arith, z)) (most_three bytes lt)) (least_gives RunAll)
+            (word_len 3) lt
             (λ value text s. omega (arith, ap length s.3, length-append (spell_word s.0) s.1, word_len s.0)))
         | inr big ↦ let u : eqb (least_word bytes) 0 ≡ false = grind (arith, nat_tests, big) in
             rw (t, u) (cut_wrong (word (is_kind f servers)) (behind_kind f servers) bytes 4
-                (word_all (is_kind f servers)) lt (λ x more behind h is.
+            (word_all (is_kind f servers)) lt (λ x more behind h is.
             let r = in_range bytes more behind x lt h.0 is in omega (arith, r.0, big, kind_small f servers x h.1)))
       ]
 ]

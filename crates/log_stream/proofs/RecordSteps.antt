@@ -147,8 +147,12 @@ pub reads_unfilled : {A X Y : Type 0} (g : Grammar A) (view : Y → A) (size : �
     (buf : List ℕ) (e : ReadErr) → ((value : A) (text : List ℕ) → Spells g value text → size ≤ length text) →
     length buf ≡ size → Fills {X = X} old new buf (Err e) → Reads (front_at g) view old new (Err e)
 reads_unfilled {X = X} g view size old new buf e least len f =
-    record { taken = f.taken; consumed = f.consumed; outcome =
-    refused_fill X g size buf f.taken new e least len f.outcome }
+    record {
+      taken = f.taken;
+      consumed = f.consumed;
+      outcome =
+          refused_fill X g size buf f.taken new e least len f.outcome;
+    }
 
 -- ---- the exit of a `?`
 

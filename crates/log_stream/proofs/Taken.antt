@@ -38,18 +38,18 @@ pub record Filling (old left : Option (List ℕ)) (buf : List ℕ) (filled : ℕ
 pub filling_more : (old mid new : Option (List ℕ)) (buf got : List ℕ) (filled count : ℕ) → Filling old mid buf filled →
     length got ≡ length buf - filled → count ≤ length got
     → Consumes mid new (take count got) → Filling old new (put_mid filled (length buf - filled) buf got)
-        (filled + count)
+    (filled + count)
 filling_more old mid new buf got filled count f len le q =
     let front : length (take filled buf) ≡ filled = length-take-le filled buf f.within in
     let past : drop (length buf - filled) (drop filled buf) ≡ [] = drop_all (length buf - filled) (drop filled buf)
-        (omega (arith, length-drop filled buf)) in
+    (omega (arith, length-drop filled buf)) in
     let whole : put_mid filled (length buf - filled) buf got ≡ take filled buf
-        ++ got = ap (λ (t : List ℕ). take filled buf ++ (got ++ t)) past
-        ∙ ap (λ (t : List ℕ). take filled buf ++ t) (append-nil got) in
+    ++ got = ap (λ (t : List ℕ). take filled buf ++ (got ++ t)) past
+    ∙ ap (λ (t : List ℕ). take filled buf ++ t) (append-nil got) in
     let taken : take (filled + count) (put_mid filled (length buf - filled) buf got) ≡ take filled buf
-        ++ take count got = ap (take (filled + count)) whole
-        ∙ subst (λ (n : ℕ). take (n + count) (take filled buf ++ got) ≡ take filled buf ++ take count got) front
-        (take-append-add (take filled buf) got count) in
+    ++ take count got = ap (take (filled + count)) whole
+    ∙ subst (λ (n : ℕ). take (n + count) (take filled buf ++ got) ≡ take filled buf ++ take count got) front
+    (take-append-add (take filled buf) got count) in
     record {
       consumed = rw taken (Consumes-then old mid new (take filled buf) (take count got) f.consumed q);
       within = rw whole (omega (arith, length-append (take filled buf) got));
@@ -65,9 +65,13 @@ length-put_part : (buf got : List ℕ) (filled : ℕ) → filled ≤ length buf 
     length (put_mid filled (length buf - filled) buf got) ≡ length buf
 length-put_part buf got filled le len =
     let past : drop (length buf - filled) (drop filled buf) ≡ [] = drop_all (length buf - filled) (drop filled buf)
-        (omega (arith, length-drop filled buf)) in
-    rw past (omega (arith, length-append (take filled buf) (got ++ []), length-append got [],
-        length-take-le filled buf le))
+    (omega (arith, length-drop filled buf)) in
+    rw past (omega (
+      arith,
+      length-append (take filled buf) (got ++ []),
+      length-append got [],
+      length-take-le filled buf le,
+    ))
 
 pub fills_failed : {X : Type 0} (old mid left : Option (List ℕ)) (buf got : List ℕ) (filled : ℕ) →
     Filling old mid buf filled → filled < length buf → length got ≡ length buf - filled → Keeps mid left
@@ -81,13 +85,15 @@ fills_failed old mid left buf got filled f lt len k = record {
 pub fills_short : {X : Type 0} (old mid left : Option (List ℕ)) (buf got : List ℕ) (filled count : ℕ) →
     Filling old mid buf filled → filled < length buf → length got ≡ length buf - filled → count ≡ 0
     → Consumes mid left (take count got) × (count ≡ 0 → 0 < length got → IsAtEnd left) →
-        Fills {X = X} old left (put_mid filled (length buf - filled) buf got) (Err Wrong)
+    Fills {X = X} old left (put_mid filled (length buf - filled) buf got) (Err Wrong)
 fills_short old mid left buf got filled count f lt len none q =
     let nothing : Consumes mid left [] = subst (λ (n : ℕ). Consumes mid left (take n got)) none q.0 in
     record {
       taken = take filled buf;
       consumed = rw (← append-nil (take filled buf))
           (Consumes-then old mid left (take filled buf) [] f.consumed nothing);
-      outcome = (omega (arith, length-take-le filled buf f.within, length-put_part buf got filled f.within len),
-          q.1 none (omega arith));
+      outcome = (
+        omega (arith, length-take-le filled buf f.within, length-put_part buf got filled f.within len),
+        q.1 none (omega arith),
+      );
     }

@@ -31,8 +31,11 @@ Appends-keeps (Some xs) (Some ys) (Some zs) a p q = q ∙ p
 pub writes_failed : {T E : Type 0} {old new : Option (List ℕ)} {text : List ℕ} {e : E} (mid : Option (List ℕ)) (n : ℕ) →
     Appends old mid (take n text) → Keeps mid new → Writes {T = T} old new text (Err e)
 writes_failed {old = old} {new = new} {text = text} mid n p q =
-    record { part = take n text; appended = Appends-keeps old mid new (take n text) p q;
-    wrote = (drop n text, sym (take-append-drop n text)) }
+    record {
+      part = take n text;
+      appended = Appends-keeps old mid new (take n text) p q;
+      wrote = (drop n text, sym (take-append-drop n text));
+    }
 
 -- the front of a text was written, and then a call took nothing
 pub writes_stuck : {T E : Type 0} {old new : Option (List ℕ)} {text : List ℕ} {e : E} (mid : Option (List ℕ))
@@ -40,15 +43,19 @@ pub writes_stuck : {T E : Type 0} {old new : Option (List ℕ)} {text : List ℕ
     Writes {T = T} old new text (Err e)
 writes_stuck {old = old} {new = new} {text = text} mid piece n count p none q =
     let nothing : Appends mid new [] = subst (λ (k : ℕ). Appends mid new (take k piece)) none q in
-    record { part = take n text; appended = rw (← append-nil (take n text))
-        (Appends-then old mid new (take n text) [] p nothing); wrote = (drop n text, sym (take-append-drop n text)) }
+    record {
+      part = take n text;
+      appended = rw (← append-nil (take n text))
+          (Appends-then old mid new (take n text) [] p nothing);
+      wrote = (drop n text, sym (take-append-drop n text));
+    }
 
 -- the front of a text, and more of it
 pub Appends-more : (old mid new : Option (List ℕ)) (text piece : List ℕ) (n count : ℕ) → piece ≡ drop n text →
     Appends old mid (take n text) → Appends mid new (take count piece) → Appends old new (take (n + count) text)
 Appends-more old mid new text piece n count e p q =
     let more : Appends mid new (take count (drop n text)) = subst
-        (λ (t : List ℕ). Appends mid new (take count t)) e q in
+    (λ (t : List ℕ). Appends mid new (take count t)) e q in
     rw (take-add n count text) (Appends-then old mid new (take n text) (take count (drop n text)) p more)
 
 pub writes_exit : {T S E : Type 0} {old new : Option (List ℕ)} {text : List ℕ} {e : E} (r : Result T E) →
@@ -60,13 +67,13 @@ writes_exit r h q = let p = err_from_is_err_and r h in rw (p.1, p.2)
 pub lines_failed : {T S E : Type 0} {old mid new : Option (List ℕ)} {e : E} (lines : List Line) (n : ℕ) (line : Line) →
     n < length lines → line ≡ get_or lines n line
     → Appends old mid (text_of (take n lines)) → Writes {T = S} mid new (line_text line) (Err e) →
-        Writes {T = T} old new (text_of lines) (Err e)
+    Writes {T = T} old new (text_of lines) (Err e)
 lines_failed {old = old} {mid = mid} {new = new} lines n line lt is p q =
     let split : lines ≡ take n lines ++ (line ∷ drop (n + 1) lines) = sym (take-append-drop n lines)
-        ∙ ap (λ (t : List Line). take n lines ++ t)
-        (drop_more lines n line lt ∙ ap (λ (x : Line). x ∷ drop (n + 1) lines) (sym is)) in
+    ∙ ap (λ (t : List Line). take n lines ++ t)
+    (drop_more lines n line lt ∙ ap (λ (x : Line). x ∷ drop (n + 1) lines) (sym is)) in
     let text : text_of lines ≡ text_of (take n lines) ++ (line_text line ++ text_of (drop (n + 1) lines)) =
-        ap text_of split ∙ flat_map-append line_text (take n lines) (line ∷ drop (n + 1) lines) in
+    ap text_of split ∙ flat_map-append line_text (take n lines) (line ∷ drop (n + 1) lines) in
     let rest : line_text line ≡ q.part ++ q.wrote.0 = q.wrote.1 in
     record {
       part = text_of (take n lines) ++ q.part;

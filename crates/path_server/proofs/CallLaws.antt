@@ -47,7 +47,7 @@ found_error nodes h kind e f P stale other = absurd f
 
 pub found_dir_error : (nodes : ByBytes PathNode) (h : List ℕ) (e : SrvErr) → IsFoundDir nodes h (Err e) →
     (P : SrvErr → Type 0) → (get nodes h ≡ None → P Stale) → (IsSomeAnd (get nodes h) (λ p. p.kind ≢ Dir) → P NotDir) →
-        P e
+    P e
 found_dir_error nodes h Stale f P stale other = stale f
 found_dir_error nodes h NotDir f P stale other = other f
 found_dir_error nodes h e f P stale other = absurd f

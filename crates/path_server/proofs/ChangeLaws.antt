@@ -106,7 +106,7 @@ module _ (number : ℕ) (contents : Contents) where
   used_fresh =
       let same : used (the_tree kept_fresh) ≡ used fresh_tree = ap used tree_fresh in
       let more = used-with_node (bare root) root (new_node number (NamesOf empty))
-          (get-empty (slice_cmp nat_cmp) root) in
+      (get-empty (slice_cmp nat_cmp) root) in
       let none = len-empty (slice_cmp nat_cmp) (List ℕ) in
       let zero_used = used-none root in
       omega (arith, same, more, none, zero_used)

@@ -85,7 +85,7 @@ module _ (t : Tree) (dir name : List ℕ) (n : Node) (m : Names) (is : node_at t
       let before : used_by n.content ≡ 512 * len m = ap used_by has_names in
       let after : used_by (with_names (λ m. insert m name h) n).content ≡ 512 * len (insert m name h) =
       ap (λ c. let x : Node = record n { content = c } in
-          used_by (with_names (λ m. insert m name h) x).content) has_names in
+      used_by (with_names (λ m. insert m name h) x).content) has_names in
       let size = len-insert_new m name h none in
       omega (arith, change, before, after, size)
 
@@ -95,7 +95,7 @@ module _ (t : Tree) (dir name : List ℕ) (n : Node) (m : Names) (is : node_at t
       let before : used_by n.content ≡ 512 * len m = ap used_by has_names in
       let after : used_by (with_names (λ m. remove m name) n).content ≡ 512 * len (remove m name) =
       ap (λ c. let x : Node = record n { content = c } in
-          used_by (with_names (λ m. remove m name) x).content) has_names in
+      used_by (with_names (λ m. remove m name) x).content) has_names in
       let size = len-remove_old m name h leads in
       omega (arith, change, before, after, size)
 

@@ -36,7 +36,7 @@ less_if kind here there p = record p {
 
 module _ (limits : ServerLimits) (next bytes : ℕ) (k : Kept) (sound : IsSound limits next bytes k)
     (dir name : List ℕ) (p : PathNode) (is : get k.nodes dir ≡ Some p) (is_directory : p.kind ≡ Dir) (h : List ℕ)
-        (leads :
+    (leads :
     get k.paths (dir ++ name) ≡ Some h) (x : PathNode) (at_h : get k.nodes h ≡ Some x) where
   abbrev paths_less : Paths
   paths_less = remove k.paths (dir ++ name)
@@ -131,7 +131,7 @@ module _ (limits : ServerLimits) (next bytes : ℕ) (k : Kept) (sound : IsSound 
         let same : dir ≡ q = (bytes_eq-Decides dir q).0 t in
         let count = (sound.counted q y e).names in
         let size : len (names_of paths_less q) + 1 ≡ len (names_of k.paths q) = subst
-            (λ q. len (names_of paths_less q) + 1 ≡
+        (λ q. len (names_of paths_less q) + 1 ≡
         len (names_of k.paths q)) same (ap (λ m. len m + 1) names_dir ∙ len_names) in
         omega (arith, count, size)
     names_count q y e false f = (sound.counted q y e).names ∙ sym (ap len (names_other q (kept_fits k.nodes next
@@ -146,9 +146,9 @@ module _ (limits : ServerLimits) (next bytes : ℕ) (k : Kept) (sound : IsSound 
         let same : dir ≡ q = (bytes_eq-Decides dir q).0 t in
         let count = (sound.counted q y e).subdirs in
         let size : subdirs (the_tree after) (names_of paths_less q) + one_if (is_dir x.kind) ≡ subdirs now
-            (names_of k.paths
+        (names_of k.paths
         q) = subst (λ q. subdirs (the_tree after) (names_of paths_less q) + one_if (is_dir x.kind) ≡ subdirs now
-            (names_of
+        (names_of
         k.paths q)) same (ap (λ m. subdirs (the_tree after) m + one_if (is_dir x.kind)) names_dir ∙ subdirs_dir) in
         omega (arith, count, size)
     subdirs_count q y e false f = (sound.counted q y e).subdirs ∙ sym (ap (subdirs (the_tree after)) (names_other q
@@ -226,16 +226,16 @@ module _ (limits : ServerLimits) (next bytes : ℕ) (k : Kept) (sound : IsSound 
 -- the same, of what a server came to: the node is no directory, and keeps other names
 module _ (limits : ServerLimits) (next bytes : ℕ) (k : Kept) (sound : IsSound limits next bytes k)
     (dir name : List ℕ) (p : PathNode) (is : get k.nodes dir ≡ Some p) (is_directory : p.kind ≡ Dir) (h : List ℕ)
-        (leads :
+    (leads :
     get k.paths (dir ++ name) ≡ Some h) (x : PathNode) (at_h : get k.nodes h ≡ Some x) (other : x.kind ≢ Dir)
     (nodes' : ByBytes PathNode)
-        (is_nodes : nodes' ≡ insert (insert k.nodes dir (one_less x.kind p)) h (one_link_less x))
+    (is_nodes : nodes' ≡ insert (insert k.nodes dir (one_less x.kind p)) h (one_link_less x))
     (store store' : Stored) (is_paths : k.paths ≡ store.names) (drops : Drops store dir name h store') where
   are_dropped : (q : List ℕ) → get nodes' q ≡ option_map (less_if x.kind (bytes_eq dir q) (bytes_eq h q))
       (get k.nodes q)
   are_dropped q = ap (λ m. get m q) is_nodes ∙ recount.two_puts k.nodes dir h p (one_less x.kind p) x (one_link_less x)
       (less_if x.kind) is at_h
-          (λ same. other (ap (λ (p : PathNode). p.kind) (some_same at_h (ap (get k.nodes) same ∙ is))
+      (λ same. other (ap (λ (p : PathNode). p.kind) (some_same at_h (ap (get k.nodes) same ∙ is))
       ∙ is_directory)) refl refl (λ y. refl) q
 
   abbrev dropped : Kept

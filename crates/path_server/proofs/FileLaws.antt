@@ -59,7 +59,7 @@ module _ (k : Kept) (h : List ℕ) (p : PathNode) (is : get k.nodes h ≡ Some p
       (ap (λ (c : Content). let n : Node = record old_file { content = c } in (with_bytes f n).content) old_content
       ∙ ap BytesOf same
       ∙ sym (ap (λ (c : Content). let n : Node = record old_file { content = c } in
-          (with_bytes g n).content) old_content))
+      (with_bytes g n).content) old_content))
       ∙ sym (edited-some now h (with_bytes g) old_file at_now)
 
   module _ (contents' : Contents) (f : List ℕ → List ℕ) (here : bytes_under contents' h ≡ f old_bytes) (others : (q :
@@ -109,7 +109,7 @@ module _ (k : Kept) (h : List ℕ) (p : PathNode) (is : get k.nodes h ≡ Some p
     links_changed : (q : List ℕ) → links (the_tree after) q ≡ links now q
     links_changed q =
         let same : links (the_tree after) q ≡ links (edited now h (with_bytes f)) q = ap
-            (λ t. links t q) tree_changed in
+        (λ t. links t q) tree_changed in
         let change = links-edited now h (with_bytes f) old_file q at_now in
         let before : names_to q old_file.content ≡ 0 = ap (names_to q) old_content in
         let then : names_to q changed.content ≡ 0 = ap (names_to q) new_content in

@@ -27,9 +27,9 @@ use Rattle.path_server.proofs.SoundLaws.{target_is}
 module _ (limits : ServerLimits) (next bytes : ℕ) (k : Kept) (sound : IsSound limits next bytes k) (h : List ℕ) (x :
     PathNode) (at_h : get k.nodes h ≡ Some x) (unnamed : x.links ≡ 0) (bare : x.kind ≡ Dir → names_of k.paths h ≡ empty)
     (nodes' : ByBytes PathNode) (gone : get nodes' h ≡ None)
-        (others : (q : List ℕ) → q ≢ h → get nodes' q ≡ get k.nodes q)
+    (others : (q : List ℕ) → q ≢ h → get nodes' q ≡ get k.nodes q)
     (contents' : Contents)
-        (same_bytes : (q : List ℕ) → q ≢ h → bytes_under contents' q ≡ bytes_under k.contents q) where
+    (same_bytes : (q : List ℕ) → q ≢ h → bytes_under contents' q ≡ bytes_under k.contents q) where
   abbrev after : Kept
   after = kept_as k.root nodes' contents' k.paths
 

@@ -37,7 +37,7 @@ module _ (limits : ServerLimits) (next bytes : ℕ) (k : Kept) (sound : IsSound 
       let is_dir : x.kind ≡ Dir = ap (λ (p : PathNode). p.kind) (some_same at_h d.1) ∙ d.2 in
       let empty_names = empty_of_len (names_of k.paths h) (sym (sound.counted h x at_h).names ∙ bare is_dir) in
       some_none at (sym (get-names_of h node_fits k.paths name) ∙ ap (λ m. get m name) empty_names
-          ∙ get-empty (slice_cmp
+      ∙ get-empty (slice_cmp
       nat_cmp) name))
 
   bare_names : names_of k.paths h ≡ empty
@@ -122,7 +122,7 @@ module _ (limits : ServerLimits) (next bytes : ℕ) (k : Kept) (sound : IsSound 
       pub tree_last : the_tree after ≡ let_go (unnamed (the_tree k) dir name) h
       tree_last = ap (λ m. the_tree (kept_as k.root nodes' contents' m)) names_gone
           ∙ gone_laws.tree_gone limits next (bytes - 512) kept_less sound_less h (one_link_less x) at_less no_links
-              (λ _.
+          (λ _.
           bare_less) nodes' gone others contents' same_bytes
           ∙ ap (λ t. without_node t h) tree_less
           ∙ sym (let_go-unlinked (unnamed (the_tree k) dir name) h links_none)
@@ -141,7 +141,7 @@ module _ (limits : ServerLimits) (next bytes : ℕ) (k : Kept) (sound : IsSound 
           subst (λ m. IsSound limits next (bytes - (512 + size)) (kept_as k.root nodes' contents' m)) (sym names_gone)
           (subst (λ b. IsSound limits next b (kept_as k.root nodes' contents' paths_less)) fewer
           (gone_laws.sound_gone limits next (bytes - 512) kept_less sound_less h (one_link_less x) at_less no_links
-              (λ _.
+          (λ _.
           bare_less) nodes' gone others contents' same_bytes
           (ap (λ m. get m h) is_contents ∙ get-remove_same k.contents h)
           (λ q ne. ap (λ m. get m q) is_contents ∙ get-remove_other k.contents h q ne)))

@@ -161,7 +161,7 @@ module _ (limits : ServerLimits) (next bytes : ℕ) (k : Kept) (sound : IsSound 
         | inl same ↦
             let is_dir : take 32 key ≡ dir = ap (take 32) same ∙ start_of dir name dir_fits in
             let is_to : h ≡ to = some_same (get-insert_same k.paths (dir ++ name) h)
-                (ap (get paths_more) (sym same) ∙ at) in (
+            (ap (get paths_more) (sym same) ∙ at) in (
               subst (λ d. IsSomeAnd (get nodes' d) IsDirNode) (sym is_dir)
                   (recount.dir_after k nodes' paths_more counts alike
                   are dir (is_some_and IsDirNode is is_directory)),
@@ -215,7 +215,7 @@ module _ (limits : ServerLimits) (next bytes : ℕ) (k : Kept) (sound : IsSound 
     k.paths (dir ++ name) ≡ None)
     (h : List ℕ) (x : PathNode) (at_h : get k.nodes h ≡ Some x) (other : x.kind ≢ Dir)
     (nodes' : ByBytes PathNode)
-        (is_nodes : nodes' ≡ insert (insert k.nodes dir (one_more x.kind p)) h (one_link_more x))
+    (is_nodes : nodes' ≡ insert (insert k.nodes dir (one_more x.kind p)) h (one_link_more x))
     (store store' : Stored) (is_paths : k.paths ≡ store.names) (is_store : store' ≡ with_name store dir name h) where
   not_one : h ≢ dir
   not_one same = other (ap (λ (p : PathNode). p.kind) (some_same at_h (ap (get k.nodes) same ∙ is)) ∙ is_directory)

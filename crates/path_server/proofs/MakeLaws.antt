@@ -71,7 +71,7 @@ module _ (limits : ServerLimits) (next bytes : ℕ) (k : Kept) (sound : IsSound 
   no_names : names_of k.paths to ≡ empty
   no_names = names_of-none to (length-serial_bytes next) k.paths (λ x. none_of (get k.paths (to ++ x)) (λ h at.
       is_and_none (get k.nodes to) IsDirNode
-          (named_in k.nodes k.paths sound.named to x h (length-serial_bytes next) at).0 absent))
+      (named_in k.nodes k.paths sound.named to x h (length-serial_bytes next) at).0 absent))
 
   -- WHAT IS KEPT AFTER
 
@@ -165,7 +165,7 @@ module _ (limits : ServerLimits) (next bytes : ℕ) (k : Kept) (sound : IsSound 
                   (insert with_new dir (more
                   old_dir)) k) (sym same)
                   (get-nodes_of nodes_after contents' paths_after to
-                      ∙ ap (option_map (full_node contents' paths_after to))
+                  ∙ ap (option_map (full_node contents' paths_after to))
                   kept_to ∙ ap Some node_new
                   ∙ sym (get-insert_other with_new dir (more old_dir) to apart
                   ∙ get-insert_same (nodes_of k.nodes k.contents k.paths) to (new_node next content)))
@@ -344,7 +344,7 @@ module _ (limits : ServerLimits) (next bytes : ℕ) (k : Kept) (sound : IsSound 
       ∙ ap (λ o. cond (is_some o) (len (insert k.nodes to made)) (len (insert k.nodes to made) + 1))
       (get-insert_other k.nodes to made dir (λ e. apart (sym e)) ∙ is)
       ∙ len-insert nat_list_cmp_total k.nodes to made ∙ ap
-          (λ o. cond (is_some o) (len k.nodes) (len k.nodes + 1)) absent
+      (λ o. cond (is_some o) (len k.nodes) (len k.nodes + 1)) absent
 
   sound_after : used_by content ≡ length text → bytes + (512 + length text) ≤ limits.bytes →
       len k.nodes < limits.nodes → IsSound limits (next + 1) (bytes + (512 + length text)) after

@@ -37,7 +37,7 @@ pub moving : (s : PathTree) {from name to to_name h : List ℕ} {kind : Kind} �
     CanMove (kept_by s) from name to to_name h kind → (p v into : PathNode) (fs : List (List ℕ × PathNode)) →
     (get (kept_by s).nodes from ≡ Some p) × (p.kind ≡ Dir) → v ≡ one_less kind p →
     fs ≡ insert_entry (slice_cmp nat_cmp) s.nodes.entries from v →
-        get (from_entries {R = slice_cmp nat_cmp} fs) to ≡ Some
+    get (from_entries {R = slice_cmp nat_cmp} fs) to ≡ Some
     into → Moving s.limits s.next s.bytes (kept_by s) from name to to_name h kind p into
 moving s held can p v into fs is_from same put got = record {
   sound = s.sound held;

@@ -106,11 +106,11 @@ module _ (held : Bool) (limits : ServerLimits) (next bytes : ℕ) (k : Kept) (so
     link-ok x p new limits' leaf is none same made = record {
       tree = held_tree held now (λ t. (new ≡ Some (named t dir name h)) × OnlySoft (LinkErr limits h dir name t))
           (λ there. (
-        made,
-        link_soft limits now h dir name (no_dir_now h (is_some_and (λ (p : PathNode). p.kind ≢ Dir) leaf.0 leaf.1))
-            (lacks
-            held limits next bytes k sound dir name p there is none),
-      ));
+            made,
+            link_soft limits now h dir name (no_dir_now h (is_some_and (λ (p : PathNode). p.kind ≢ Dir) leaf.0 leaf.1))
+                (lacks
+                held limits next bytes k sound dir name p there is none),
+          ));
       limits = same;
       faults = refl;
     }
@@ -221,11 +221,11 @@ module _ (held : Bool) (limits : ServerLimits) (next bytes : ℕ) (k : Kept) (so
         rmdir-full some = record {
           tree = held_tree held now (λ t. IsSomeAnd (target t dir name) (HasNames t) × (tree_of held k ≡ Some t))
               (λ there. (
-            is_some_and (HasNames now) (there_leads there) (is_some_and (λ (m : Names). m ≢ empty) (names_are there) (λ
-                none. let count = count_is there in let size = ap len none in
-                let zero_size = len-empty (slice_cmp nat_cmp) (List ℕ) in omega (arith, some, count, size, zero_size))),
-            there_is there,
-          ));
+                is_some_and (HasNames now) (there_leads there) (is_some_and (λ (m : Names). m ≢ empty) (names_are there) (λ
+                    none. let count = count_is there in let size = ap len none in
+                    let zero_size = len-empty (slice_cmp nat_cmp) (List ℕ) in omega (arith, some, count, size, zero_size))),
+                there_is there,
+              ));
           limits = refl;
           faults = refl;
         }

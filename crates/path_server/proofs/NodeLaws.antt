@@ -45,7 +45,7 @@ module _ {A B : Type 0} (f : List ℕ → A → B) where
   find_below x [] h = refl
   find_below x (e ∷ es) h =
       ap (λ r. cond (is_eq r) (Some (f e.0 e.1)) (find (slice_cmp nat_cmp) x (map (λ e. (e.0, f e.0 e.1)) es)))
-          (less _ (both_first _ (below_all (slice_cmp nat_cmp) x es) h))
+      (less _ (both_first _ (below_all (slice_cmp nat_cmp) x es) h))
       ∙ find_below x es (both_second (is_lt (slice_cmp nat_cmp x e.0)) _ h)
 
   len-mapped : (es : List (List ℕ × A)) → T (is_sorted (slice_cmp nat_cmp) es) →
@@ -55,8 +55,8 @@ module _ {A B : Type 0} (f : List ℕ → A → B) where
       let m : FinMap (slice_cmp nat_cmp) B = from_entries (map (λ e. (e.0, f e.0 e.1)) es) in
       len-insert nat_list_cmp_total m e.0 (f e.0 e.1)
       ∙ ap (λ o. cond (is_some o) (len m) (len m + 1))
-          (get-from_entries nat_list_cmp_total (map (λ e. (e.0, f e.0 e.1)) es) e.0
-          ∙ find_below e.0 es (both_first _ (is_sorted (slice_cmp nat_cmp) es) h))
+      (get-from_entries nat_list_cmp_total (map (λ e. (e.0, f e.0 e.1)) es) e.0
+      ∙ find_below e.0 es (both_first _ (is_sorted (slice_cmp nat_cmp) es) h))
       ∙ ap (λ n. n + 1) (len-mapped es (both_second (below_all (slice_cmp nat_cmp) e.0 es) _ h)) ∙ add-one _
 
   find-mapped : (es : List (List ℕ × A)) (h : List ℕ) → find (slice_cmp nat_cmp) h (map (λ e. (
@@ -142,8 +142,11 @@ module _ (k : Kept) where
       elim (get k.nodes h) as (λ o. option_map (node_here h) o ≡ Some n →
       (p : PathNode) × (o ≡ Some p) × (n ≡ node_here h p)) [
         | None ↦ λ no. absurd (let bad : None ≡ Some n = no in cc)
-        | Some p ↦ λ is. (p, refl,
-            (let f : Some (node_here h p) ≡ Some n = is in let same : n ≡ node_here h p = cc in same))
+        | Some p ↦ λ is. (
+          p,
+          refl,
+          (let f : Some (node_here h p) ≡ Some n = is in let same : n ≡ node_here h p = cc in same),
+        )
       ] (sym (get-nodes_of k.nodes k.contents k.paths h) ∙ e)
 
   -- DIRECTORIES

@@ -44,12 +44,12 @@ put-and-remove-rows es fs gs h v w k same put less = remove-rows fs gs k less
 pub bytes-filled_rows : (es : List (List ℕ × Vec ℕ Global)) (m : FinMap (slice_cmp nat_cmp) (List ℕ)) (q : List ℕ)
     (found : Option (Vec ℕ Global)) → from_entries (map filled_row es) ≡ m →
     found ≡ lookup (λ k. is_eq (slice_cmp nat_cmp q k)) es →
-        unwrap_or (option_map (λ v. v.items) found) [] ≡ bytes_under m q
+    unwrap_or (option_map (λ v. v.items) found) [] ≡ bytes_under m q
 unfolding bytes_under
 bytes-filled_rows es m q found is_map is =
     ap (λ o. unwrap_or (option_map (λ (v : Vec ℕ Global). v.items) o) []) is
     ∙ ap (λ o. unwrap_or o [])
-        (sym (find-filled es q) ∙ sym (get-from_entries nat_list_cmp_total (map filled_row es) q))
+    (sym (find-filled es q) ∙ sym (get-from_entries nat_list_cmp_total (map filled_row es) q))
     ∙ ap (λ m. unwrap_or (get m q) []) is_map
 
 none_or : (b : Bool) (o : Option (Vec ℕ Global)) → option_map (λ v. v.items) (cond b None o) ≡ cond b None

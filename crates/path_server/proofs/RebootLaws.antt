@@ -149,12 +149,12 @@ none_stays a b fits fits' apart t begins h some =
 pub old_handles_stale : (a b : ℕ) → a < 2 ^ 64 → b < 2 ^ 64 → a ≢ b → (held : Bool) (limits : ServerLimits)
     (next bytes : ℕ) (k : Kept) → (held ≡ true → IsSound limits next bytes k) →
     NoneStays (option_map (shown_tree (shown_at a)) (tree_of held k))
-        (option_map (shown_tree (shown_at b)) (tree_of held k))
+    (option_map (shown_tree (shown_at b)) (tree_of held k))
 old_handles_stale a b fits fits' apart held limits next bytes k sound t u at_t at_u h some =
     let x = mapped_some (shown_tree (shown_at a)) (tree_of held k) t at_t in
     let y = mapped_some (shown_tree (shown_at b)) (tree_of held k) u at_u in
     let begins : BeginInside x.0 = held_tree held (the_tree k) BeginInside
-        (λ there. begin_inside limits next bytes k (sound there)) x.0 x.1 in
+    (λ there. begin_inside limits next bytes k (sound there)) x.0 x.1 in
     let one : y.0 ≡ x.0 = (let e : Some y.0 ≡ Some x.0 = sym y.1 ∙ x.1 in cc) in
     ap (λ v. node_at v h) (sym (ap (shown_tree (shown_at b)) (sym one) ∙ y.2))
     ∙ none_stays a b fits fits' apart x.0 begins h (subst (λ v. IsSome (node_at v h)) (sym x.2) some)
@@ -164,7 +164,7 @@ old_handles_stale a b fits fits' apart held limits next bytes k sound t u at_t a
 pub within_seen : (shown : List ℕ → List ℕ) → ((h : List ℕ) → shown (shown h) ≡ h) → (limits : ServerLimits)
     (o : Option Tree) → IfSome o (λ (t : Tree). (len t.nodes ≤ max 1 limits.nodes) × (used t ≤ limits.bytes)) →
     IfSome (option_map (shown_tree shown) o)
-        (λ (t : Tree). (len t.nodes ≤ max 1 limits.nodes) × (used t ≤ limits.bytes))
+    (λ (t : Tree). (len t.nodes ≤ max 1 limits.nodes) × (used t ≤ limits.bytes))
 within_seen shown twice limits None w = w
 within_seen shown twice limits (Some t) w = (
   subst (λ n. n ≤ max 1 limits.nodes) (sym (len-shown shown twice t)) w.0,

@@ -40,7 +40,7 @@ pub two_puts : (nodes : ByBytes PathNode) (d h : List ℕ) (p p' x x' : PathNode
     get (insert (insert nodes d p') h x') q ≡ option_map (f (bytes_eq d q) (bytes_eq h q)) (get nodes q)
 two_puts nodes d h p p' x x' f at_d at_h ne is_p is_x is_y q =
     elim (bytes_or_not q h) as
-        (λ _. get (insert (insert nodes d p') h x') q ≡ option_map (f (bytes_eq d q) (bytes_eq h q)) (get nodes q)) [
+    (λ _. get (insert (insert nodes d p') h x') q ≡ option_map (f (bytes_eq d q) (bytes_eq h q)) (get nodes q)) [
       | inl same ↦ subst (λ q. get (insert (insert nodes d p') h x') q ≡ option_map (f (bytes_eq d q) (bytes_eq h q))
           (get nodes q)) (sym same)
           (get-insert_same (insert nodes d p') h x' ∙ ap Some (sym is_x)
@@ -49,7 +49,7 @@ two_puts nodes d h p p' x x' f at_d at_h ne is_p is_x is_y q =
           ∙ ap (λ b. Some (f false b x)) (bytes_same h h refl)))
       | inr not_h ↦ get-insert_other (insert nodes d p') h x' q not_h
           ∙ (elim (bytes_or_not q d) as
-              (λ _. get (insert nodes d p') q ≡ option_map (f (bytes_eq d q) (bytes_eq h q)) (get nodes q)) [
+          (λ _. get (insert nodes d p') q ≡ option_map (f (bytes_eq d q) (bytes_eq h q)) (get nodes q)) [
             | inl same ↦ subst (λ q. get (insert nodes d p') q ≡ option_map (f (bytes_eq d q) (bytes_eq h q))
                 (get nodes q)) (sym same)
                 (get-insert_same nodes d p' ∙ ap Some (sym is_p)
@@ -77,7 +77,7 @@ pub record IsRecount (p x : PathNode) : Type 0 where
 
 module _ (k : Kept) (nodes' : ByBytes PathNode) (paths' : Paths) (f : List ℕ → PathNode → PathNode) (alike : (q : List
     ℕ) (p : PathNode) → IsRecount p (f q p))
-        (are : (q : List ℕ) → get nodes' q ≡ option_map (f q) (get k.nodes q)) where
+    (are : (q : List ℕ) → get nodes' q ≡ option_map (f q) (get k.nodes q)) where
   abbrev after : Kept
   after = kept_as k.root nodes' k.contents paths'
 
@@ -103,7 +103,7 @@ module _ (k : Kept) (nodes' : ByBytes PathNode) (paths' : Paths) (f : List ℕ �
   pub kinds_after : (q : List ℕ) → kind_at after q ≡ kind_at k q
   kinds_after q =
       elim (get k.nodes q) as
-          (λ o. get k.nodes q ≡ o → option_map (λ (p : PathNode). p.kind) (get nodes' q) ≡ option_map
+      (λ o. get k.nodes q ≡ o → option_map (λ (p : PathNode). p.kind) (get nodes' q) ≡ option_map
       (λ (p : PathNode). p.kind) o) [
         | None ↦ λ is. ap (option_map (λ (p : PathNode). p.kind)) (none_after q is)
         | Some p ↦ λ is. ap (option_map (λ (p : PathNode). p.kind)) (kept_after q p is) ∙ ap Some (alike q p).kind
@@ -144,9 +144,9 @@ module _ (k : Kept) (nodes' : ByBytes PathNode) (paths' : Paths) (f : List ℕ �
     node_dir : full_node k.contents paths' dir (f dir p) ≡ with_names g old_dir
     node_dir = (alike dir p).node (bytes_under k.contents dir) (names_of paths' dir)
         ∙ ap (λ c. let n : Node = record { number = p.number; mode = p.mode; uid = p.uid; gid = p.gid; content = c } in
-            n)
+        n)
         (fuller_content p.kind (bytes_under k.contents dir) (bytes_under k.contents dir) (names_of k.paths dir)
-            (names_of
+        (names_of
         paths' dir) g is_directory here)
 
     same_node : (q : List ℕ) → q ≢ dir → option_map (full_node k.contents paths' q) (get nodes' q) ≡

@@ -40,7 +40,7 @@ below_none : {A : Type 0} (x : List ℕ) (es : List (List ℕ × A)) → T (belo
 below_none x [] h = refl
 below_none x (e ∷ es) h =
     ap (λ b. cond b (Some e.1) (find (slice_cmp nat_cmp) x es))
-        (not_tied _ (first_of _ (below_all (slice_cmp nat_cmp) x es) h))
+    (not_tied _ (first_of _ (below_all (slice_cmp nat_cmp) x es) h))
     ∙ below_none x es (second_of (is_lt (slice_cmp nat_cmp x e.0)) _ h)
 
 module _ (key : List ℕ → List ℕ) (twice : (h : List ℕ) → key (key h) ≡ h) where
@@ -63,7 +63,7 @@ module _ (key : List ℕ → List ℕ) (twice : (h : List ℕ) → key (key h) �
     find-moved q (e ∷ es) =
         ap (λ b. cond b (Some (value e.1)) (find (slice_cmp nat_cmp) q (moved es))) (ties-key q e.0)
         ∙ (elim (is_eq (slice_cmp nat_cmp (key q) e.0)) as
-            (λ b. cond b (Some (value e.1)) (find (slice_cmp nat_cmp) q (moved es))
+        (λ b. cond b (Some (value e.1)) (find (slice_cmp nat_cmp) q (moved es))
         ≡ option_map value (cond b (Some e.1) (find (slice_cmp nat_cmp) (key q) es))) [
           | true ↦ refl
           | false ↦ find-moved q es

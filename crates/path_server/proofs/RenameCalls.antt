@@ -109,7 +109,7 @@ module _ (held : Bool) (limits : ServerLimits) (next bytes : ℕ) (k : Kept) (so
     kept_dir d =
         let names = some_of (names_at now h) d in
         dir_of_names m.kind (bytes_under k.contents h) (names_of k.paths h) names.0
-            (sym (names_at-node now h (node_here k
+        (sym (names_at-node now h (node_here k
         h m) (node_at-kept k h m is_moved)) ∙ names.1)
 
     pub rename-below : m.kind ≡ Dir → stored.IsAtOrBelow k.paths h to →

@@ -72,7 +72,7 @@ module _ (shown : List ℕ → List ℕ) (twice : (h : List ℕ) → shown (show
   carried : {T : Type 0} (done seen : Tree → T → Option Tree → Type 0) (applies told : Tree → SrvErr → Type 0) →
       ((t : Tree) (e : SrvErr) → Alike (applies t e) (told (over t) e)) → (old new : Server) →
       ((t : Tree) (x : T) (n : Option Tree) → done t x n → seen (over t) x (option_map over n)) →
-          (r : Result T SrvErr) →
+      (r : Result T SrvErr) →
       Called (λ t. Outcome (done t) (applies t) t) old r new →
       Called (λ t. Outcome (seen t) (told t) t) (out old) r (out new)
   carried done seen applies told alike old new along (Ok x) c =
@@ -88,7 +88,7 @@ module _ (shown : List ℕ → List ℕ) (twice : (h : List ℕ) → shown (show
       attr_seen t a some =
           let n = some_and (node_at t q) (IsAttr t q a) some in
           is_some_and (IsAttr (over t) (shown q) a)
-              (node_at-shown shown twice t q ∙ ap (option_map (shown_node shown)) n.1)
+          (node_at-shown shown twice t q ∙ ap (option_map (shown_node shown)) n.1)
           (record {
             kind = n.2.kind ∙ sym (kind_of-shown shown twice n.0.content);
             number = n.2.number;
@@ -121,9 +121,9 @@ module _ (shown : List ℕ → List ℕ) (twice : (h : List ℕ) → shown (show
           Read (out old) (shown q) offset count r (out new)
       read_inside offset count r c = carried
           (λ t (v : Vec ℕ Global) n. (option_map (λ b. take count (drop offset b)) (bytes_at t q) ≡ Some v.items)
-              × (n ≡ Some t))
+          × (n ≡ Some t))
           (λ t (v : Vec ℕ Global) n.
-              (option_map (λ b. take count (drop offset b)) (bytes_at t (shown q)) ≡ Some v.items) × (n ≡ Some t))
+          (option_map (λ b. take count (drop offset b)) (bytes_at t (shown q)) ≡ Some v.items) × (n ≡ Some t))
           (λ t. ContentErr bytes_in q t) (λ t. ContentErr bytes_in (shown q) t) (λ t. read_err shown twice t q) old new
           (λ t v n d. (
             ap (option_map (λ b. take count (drop offset b))) (bytes_at-shown shown twice t q) ∙ d.0,
@@ -136,7 +136,7 @@ module _ (shown : List ℕ → List ℕ) (twice : (h : List ℕ) → shown (show
           (λ t (v : Vec ℕ Global) n. (text_at t q ≡ Some v.items) × (n ≡ Some t))
           (λ t (v : Vec ℕ Global) n. (text_at t (shown q) ≡ Some v.items) × (n ≡ Some t))
           (λ t. ContentErr text_in q t) (λ t. ContentErr text_in (shown q) t)
-              (λ t. read_link_err shown twice t q) old new
+          (λ t. read_link_err shown twice t q) old new
           (λ t v n d. (text_at-shown shown twice t q ∙ d.0, ap (option_map over) d.1)) r c
 
       bytes_edited : (t : Tree) (f : List ℕ → List ℕ) (n : Option Tree) → n ≡ Some (edited t q (with_bytes f)) →
@@ -149,7 +149,7 @@ module _ (shown : List ℕ → List ℕ) (twice : (h : List ℕ) → shown (show
       write_inside offset piece r c = carried
           (λ t. Wrote t q offset piece) (λ t. Wrote t (shown q) offset piece)
           (λ t. WriteErr old.limits q offset (length piece) t)
-              (λ t. WriteErr old.limits (shown q) offset (length piece) t)
+          (λ t. WriteErr old.limits (shown q) offset (length piece) t)
           (λ t. write_err shown twice t old.limits q offset (length piece)) old new
           (λ t count n d. record {
             some = d.some;
@@ -173,17 +173,17 @@ module _ (shown : List ℕ → List ℕ) (twice : (h : List ℕ) → shown (show
           Lookup (out old) (shown dir) name (Err e) (out new)
       lookup_err_inside e c = carried_err
           (λ t h n. (target t dir name ≡ Some h) × (n ≡ Some t))
-              (λ t h n. (target t (shown dir) name ≡ Some h) × (n ≡ Some t))
+          (λ t h n. (target t (shown dir) name ≡ Some h) × (n ≡ Some t))
           (λ t. LookupErr dir name t) (λ t. LookupErr (shown dir) name t)
-              (λ t. lookup_err shown twice t dir name) old new e c
+          (λ t. lookup_err shown twice t dir name) old new e c
 
       lookup_ok_inside : (x : List ℕ) → Lookup old dir name (Ok x) new →
           Lookup (out old) (shown dir) name (Ok (shown x)) (out new)
       lookup_ok_inside x c = carried_ok
           (λ t h n. (target t dir name ≡ Some h) × (n ≡ Some t))
-              (λ t h n. (target t (shown dir) name ≡ Some h) × (n ≡ Some t))
+          (λ t h n. (target t (shown dir) name ≡ Some h) × (n ≡ Some t))
           (λ t. LookupErr dir name t) (λ t. LookupErr (shown dir) name t)
-              (λ t. lookup_err shown twice t dir name) old new
+          (λ t. lookup_err shown twice t dir name) old new
           x (shown x) (λ t n d. (target_at shown twice t dir name x d.0, ap (option_map over) d.1)) c
 
       module _ (content : Content) (bytes : ℕ) where
@@ -212,7 +212,7 @@ module _ (shown : List ℕ → List ℕ) (twice : (h : List ℕ) → shown (show
               after = ap (option_map over) d.after ∙ ap Some (
                   named-shown shown twice (with_node t x (new_node d.number content)) dir name x
                   ∙ ap (λ u. named u (shown dir) name (shown x))
-                      (with_node-shown shown twice t x (new_node d.number content)));
+                  (with_node-shown shown twice t x (new_node d.number content)));
             }) c
 
       link_inside : (h : List ℕ) (r : Result (Unit {0}) SrvErr) → Link old h dir name r new →
@@ -235,7 +235,7 @@ module _ (shown : List ℕ → List ℕ) (twice : (h : List ℕ) → shown (show
           Remove (out old) (shown dir) name r (out new)
       remove_inside r c = carried (λ t _. Removed t dir name) (λ t _. Removed t (shown dir) name)
           (λ t. RemoveErr dir name t) (λ t. RemoveErr (shown dir) name t)
-              (λ t. remove_err shown twice t dir name) old new
+          (λ t. remove_err shown twice t dir name) old new
           (λ t _ n d. removed_seen t n d) r c
 
       rmdir_inside : (r : Result (Unit {0}) SrvErr) → Rmdir old dir name r new →
@@ -249,7 +249,7 @@ module _ (shown : List ℕ → List ℕ) (twice : (h : List ℕ) → shown (show
       rename_inside to to_name r c = carried
           (λ t _ n. IsSomeAnd (target t dir name) (λ h. n ≡ Some (renamed t dir name to to_name h)))
           (λ t _ n. IsSomeAnd (target t (shown dir) name)
-              (λ h. n ≡ Some (renamed t (shown dir) name (shown to) to_name h)))
+          (λ h. n ≡ Some (renamed t (shown dir) name (shown to) to_name h)))
           (λ t. RenameErr dir name to to_name t) (λ t. RenameErr (shown dir) name (shown to) to_name t)
           (λ t. rename_err shown twice t dir name to to_name) old new
           (λ t _ n d.
@@ -262,7 +262,7 @@ module _ (shown : List ℕ → List ℕ) (twice : (h : List ℕ) → shown (show
 
     module _ (rows seen : List Listed)
         (same : (k : ℕ) → slice_get seen k ≡ option_map
-            (λ (row : Listed). let x : Listed = record row { handle = shown row.handle } in x) (slice_get rows k)) where
+        (λ (row : Listed). let x : Listed = record row { handle = shown row.handle } in x) (slice_get rows k)) where
       abbrev shown_listed : Listed → Listed
       shown_listed row = record row { handle = shown row.handle }
 
@@ -283,7 +283,7 @@ module _ (shown : List ℕ → List ℕ) (twice : (h : List ℕ) → shown (show
             let x = mapped_some shown_listed (slice_get rows j) a (sym (same j) ∙ at_j) in
             let y = mapped_some shown_listed (slice_get rows k) b (sym (same k) ∙ at_k) in
             l.once j k x.0 y.0 x.1 y.1
-                (ap (λ (r : Listed). r.name) x.2 ∙ alike ∙ sym (ap (λ (r : Listed). r.name) y.2));
+            (ap (λ (r : Listed). r.name) x.2 ∙ alike ∙ sym (ap (λ (r : Listed). r.name) y.2));
       }
 
     module _ (dir : List ℕ) where
@@ -295,8 +295,8 @@ module _ (shown : List ℕ → List ℕ) (twice : (h : List ℕ) → shown (show
 
       list_ok_inside : (rows seen : Vec Listed Global) →
           ((k : ℕ) → slice_get seen.items k ≡ option_map
-              (λ (row : Listed). let x : Listed = record row { handle = shown row.handle } in x)
-              (slice_get rows.items k)) →
+          (λ (row : Listed). let x : Listed = record row { handle = shown row.handle } in x)
+          (slice_get rows.items k)) →
           ListNames old dir (Ok rows) new → ListNames (out old) (shown dir) (Ok seen) (out new)
       list_ok_inside rows seen same c = carried_ok
           (λ t (rows : Vec Listed Global) n. IsSomeAnd (names_at t dir) (Lists rows.items) × (n ≡ Some t))
@@ -323,9 +323,9 @@ module _ (shown : List ℕ → List ℕ) (twice : (h : List ℕ) → shown (show
           ∙ ap (λ nodes. let u : Tree = record { root = shown f.root; nodes = nodes } in Some u)
           (rekeyed-insert shown twice (shown_node shown) empty f.root (new_node f.number (NamesOf empty))
           ∙ ap (λ m. insert m (shown f.root) (shown_node shown (new_node f.number (NamesOf empty))))
-              (rekeyed-empty shown twice (shown_node shown))
+          (rekeyed-empty shown twice (shown_node shown))
           ∙ ap (λ m. insert empty (shown f.root) (new_node f.number (NamesOf m)))
-              (rekeyed-empty (λ name. name) (λ _. refl) shown));
+          (rekeyed-empty (λ name. name) (λ _. refl) shown));
     }
 
     pub wipe_seen : (r : Result (Unit {0}) SrvErr) → Wipe old r new → Wipe (out old) r (out new)
@@ -374,8 +374,8 @@ module _ (shown : List ℕ → List ℕ) (twice : (h : List ℕ) → shown (show
 
       pub list_ok_told : (rows seen : Vec Listed Global) →
           ((k : ℕ) → slice_get seen.items k ≡ option_map
-              (λ (row : Listed). let x : Listed = record row { handle = shown row.handle } in x)
-              (slice_get rows.items k)) →
+          (λ (row : Listed). let x : Listed = record row { handle = shown row.handle } in x)
+          (slice_get rows.items k)) →
           ListNames old q (Ok rows) new → ListNames (out old) h (Ok seen) (out new)
       list_ok_told rows seen same c = subst (λ x. ListNames (out old) x (Ok seen) (out new)) meets
           (list_ok_inside q rows seen same c)
@@ -431,4 +431,4 @@ module _ (shown : List ℕ → List ℕ) (twice : (h : List ℕ) → shown (show
         rename_told x y to_name is r c = subst (λ z. Rename (out old) h name z to_name r (out new))
             (ap shown is ∙ twice y)
             (subst (λ z. Rename (out old) z name (shown x) to_name r (out new)) meets
-                (rename_inside q name x to_name r c))
+            (rename_inside q name x to_name r c))

@@ -79,7 +79,7 @@ module _ (shown : List ℕ → List ℕ) (twice : (h : List ℕ) → shown (show
   lacks_name dir name = along (λ o. IsSomeAnd o (λ (m : Names). get m name ≡ None)) (names_at-shown shown twice t dir)
       (some_and_alike (shown_names shown) (λ (m : Names). get m name ≡ None) (λ m. get m name ≡ None)
       (λ m. along (λ o. o ≡ None) (get-shown_names shown twice m name) (none_alike shown (get m name)))
-          (names_at t dir))
+      (names_at t dir))
 
   no_names_at_all : (m : Names) → Alike (m ≢ empty) (shown_names shown m ≢ empty)
   no_names_at_all m = (

@@ -186,7 +186,7 @@ module _ (shown : List ℕ → List ℕ) (twice : (h : List ℕ) → shown (show
         shown_tree shown (edited t q f) ≡ edited (shown_tree shown t) (shown q) g) [
           | None ↦ λ is. ap (shown_tree shown) (edited-none t q f is)
               ∙ sym (edited-none (shown_tree shown t) (shown q) g
-                  (node_at-shown q ∙ ap (option_map (shown_node shown)) is))
+              (node_at-shown q ∙ ap (option_map (shown_node shown)) is))
           | Some n ↦ λ is. ap (shown_tree shown) (edited-some t q f n is) ∙ with_node-shown q (f n)
               ∙ ap (with_node (shown_tree shown t) (shown q)) (same n)
               ∙ sym (edited-some (shown_tree shown t) (shown q) g (shown_node shown n) (node_at-shown q
@@ -210,9 +210,9 @@ module _ (shown : List ℕ → List ℕ) (twice : (h : List ℕ) → shown (show
     where
       by_content : (c : Content) →
           shown_content shown (elim c as
-              (λ _. Content) [ BytesOf b ↦ BytesOf (f b) | TextOf x ↦ TextOf x | NamesOf m ↦ NamesOf m ])
+          (λ _. Content) [ BytesOf b ↦ BytesOf (f b) | TextOf x ↦ TextOf x | NamesOf m ↦ NamesOf m ])
           ≡ elim (shown_content shown c) as
-              (λ _. Content) [ BytesOf b ↦ BytesOf (f b) | TextOf x ↦ TextOf x | NamesOf m ↦ NamesOf m ]
+          (λ _. Content) [ BytesOf b ↦ BytesOf (f b) | TextOf x ↦ TextOf x | NamesOf m ↦ NamesOf m ]
       by_content (BytesOf b) = refl
       by_content (TextOf x) = refl
       by_content (NamesOf m) = refl
@@ -223,9 +223,9 @@ module _ (shown : List ℕ → List ℕ) (twice : (h : List ℕ) → shown (show
     where
       by_content : (c : Content) →
           shown_content shown (elim c as
-              (λ _. Content) [ BytesOf b ↦ BytesOf b | TextOf x ↦ TextOf x | NamesOf m ↦ NamesOf (f m) ])
+          (λ _. Content) [ BytesOf b ↦ BytesOf b | TextOf x ↦ TextOf x | NamesOf m ↦ NamesOf (f m) ])
           ≡ elim (shown_content shown c) as
-              (λ _. Content) [ BytesOf b ↦ BytesOf b | TextOf x ↦ TextOf x | NamesOf m ↦ NamesOf (g m) ]
+          (λ _. Content) [ BytesOf b ↦ BytesOf b | TextOf x ↦ TextOf x | NamesOf m ↦ NamesOf (g m) ]
       by_content (BytesOf b) = refl
       by_content (TextOf x) = refl
       by_content (NamesOf m) = ap NamesOf (same m)
@@ -259,12 +259,12 @@ module _ (shown : List ℕ → List ℕ) (twice : (h : List ℕ) → shown (show
         | Some r ↦ (elim (bytes_eq r h) as
             (λ b. shown_tree shown (if b then t else let_go (named (unnamed t from name) to to_name h) r)
             ≡ (if b then shown_tree shown t else let_go
-                (named (unnamed (shown_tree shown t) (shown from) name) (shown to) to_name (shown h)) (shown r))) [
+            (named (unnamed (shown_tree shown t) (shown from) name) (shown to) to_name (shown h)) (shown r))) [
               | true ↦ refl
               | false ↦ let_go-shown (named (unnamed t from name) to to_name h) r
                   ∙ ap (λ u. let_go u (shown r)) moved_name
             ]) ∙ ap (λ b. if b then shown_tree shown t else let_go
-                (named (unnamed (shown_tree shown t) (shown from) name) (shown to) to_name (shown h)) (shown r))
+            (named (unnamed (shown_tree shown t) (shown from) name) (shown to) to_name (shown h)) (shown r))
             (sym (same_handles r h))
       ]) ∙ ap (by_target (shown_tree shown t) (shown from) name (shown to) to_name (shown h))
       (sym (target-shown t to to_name))

@@ -83,12 +83,12 @@ shown_before before starts fits fits' apart r is =
     elim (bytes_or_not old inside) [
       | inl zeros ↦
           let out : exchanged inside new h ≡ new ++ r = from_first inside new refl (length-number starts) h r
-              (ap (λ x. x ++ r) zeros) in
+          (ap (λ x. x ++ r) zeros) in
           let begins : new ≡ inside = sym (take_at new r 8 (length-number starts)) ∙ sym (ap (take 8) out) ∙ is in
           apart (same_number before starts fits fits' (zeros ∙ sym begins))
       | inr ne ↦
           let out : exchanged inside new h ≡ h = neither inside new refl (length-number starts) h
-              (λ e. ne (sym start ∙ e))
+          (λ e. ne (sym start ∙ e))
           (λ e. apart (same_number before starts fits fits' (sym start ∙ e))) in
           ne (sym start ∙ sym (ap (take 8) out) ∙ is)
     ]

@@ -24,8 +24,13 @@ kept_as root nodes contents paths = record { root = root; nodes = nodes; content
 -- the node that is kept so, with these bytes and names
 abbrev pub node_of : PathNode → List ℕ → Names → Node
 node_of p bytes names =
-    record { number = p.number; mode = p.mode; uid = p.uid; gid = p.gid;
-        content = content_of p.kind bytes names }
+    record {
+      number = p.number;
+      mode = p.mode;
+      uid = p.uid;
+      gid = p.gid;
+      content = content_of p.kind bytes names;
+    }
 
 -- the node under a handle that is kept so
 abbrev pub full_node : Contents → Paths → List ℕ → PathNode → Node

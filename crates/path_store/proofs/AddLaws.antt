@@ -72,9 +72,11 @@ module _ (keys : Keys) (rows : Rows) (path : List ℕ) (row : PathRow) (new_keys
       | inr ne ↦
           let before : IsSome (slot rows k) = ap is_some (sym (put.rows_are.others k ne)) ∙ there in
           let q = keyed.used k before in
-          let r = some_of (slot rows k) before in
-          (q.0, key_other q.0 (λ e. some_none
-              (sym (ap (row_at keys rows) e) ∙ row_of_key keys rows q.0 k q.1 ∙ r.1) free) ∙ q.1)
+          let r = some_of (slot rows k) before in (
+            q.0,
+            key_other q.0 (λ e. some_none
+                (sym (ap (row_at keys rows) e) ∙ row_of_key keys rows q.0 k q.1 ∙ r.1) free) ∙ q.1,
+          )
     ];
   }
 

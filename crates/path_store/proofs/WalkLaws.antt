@@ -219,7 +219,7 @@ module _ (top : List ℕ) (low high : Vec ℕ Global) (low_is : low.items ≡ to
               (elim (under_cases top path t) as (λ _. IsAmong (path, key) (first ++ map row all)) [
                 | inl same ↦ among_left (path, key) first (map row all) (subst (IsAmong (path, key))
                     (sym (alone ∙ ap (λ o. option_to_list (option_map (λ k. (top, k)) o))
-                        (ap (get keys) (sym same) ∙ is)))
+                    (ap (get keys) (sym same) ∙ is)))
                     (inl (ap (λ l. (l, key)) (sym same))))
                 | inr rest ↦
                     let e = of_got path key is in

@@ -39,7 +39,7 @@ abbrev pub listed_at : Option PathRow → List ℕ → ℕ → List ℕ → Opti
 listed_at None dir size path = None
 listed_at (Some row) dir size path =
     if bytes_eq row.dir dir then
-        (if nat_lt size (length path) then Some (drop (size + 1) path, row.to) else None)
+    (if nat_lt size (length path) then Some (drop (size + 1) path, row.to) else None)
     else None
 
 -- the names of these paths
@@ -53,7 +53,7 @@ listed_of rows dir size (e ∷ es) = option_to_list (listed_at (slot rows e.1) d
 pub record ListsRows (dir top : List ℕ) (keys : Keys) (rows : Rows) (listed : List Listed) : Type 0 where
   pub sound : (k : ℕ) (r : Listed) → slice_get listed k ≡ Some r →
       (row : PathRow) × (row_at keys rows (joined top r.name) ≡ Some row) × (row.dir ≡ dir)
-          × (row.to ≡ r.handle)
+      × (row.to ≡ r.handle)
   pub complete : (name : List ℕ) (row : PathRow) → row_at keys rows (joined top name) ≡ Some row →
       row.dir ≡ dir →
       (k : ℕ) × (slice_get listed k ≡ Some (record { name = name; handle = row.to }))

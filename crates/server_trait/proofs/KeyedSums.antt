@@ -49,7 +49,7 @@ module _ {X Y V : Type 0} (key : X → Option (List ℕ)) (f : V → ℕ) (g : Y
     none = λ i. k.none (suc i);
     some = λ i a b q at_i at_y ka.
         let ne : q ≢ h = λ e.
-            (let bad = k.once (suc i) zero a x h at_i refl (ka ∙ ap Some e) is_key in absurd (omega arith)) in
+        (let bad = k.once (suc i) zero a x h at_i refl (ka ∙ ap Some e) is_key in absurd (omega arith)) in
         subst (λ o. IsSomeAnd o (λ v. f v ≡ g b)) (sym (get-remove_other m h q ne)) (k.some (suc i) a b q at_i at_y ka);
   }
     where

@@ -13,17 +13,17 @@ insert-remove : (m : Names) (name to_name h : List ℕ) → name ≢ to_name →
 insert-remove m name to_name h differ = same_answers (insert (remove m name) to_name h)
     (remove (insert m to_name h) name) (λ q.
     elim (bytes_or_not q to_name) as
-        (λ _. get (insert (remove m name) to_name h) q ≡ get (remove (insert m to_name h) name) q) [
+    (λ _. get (insert (remove m name) to_name h) q ≡ get (remove (insert m to_name h) name) q) [
       | inl e ↦ subst (λ q. get (insert (remove m name) to_name h) q ≡ get (remove (insert m to_name h) name) q) (sym e)
           (get-insert_same (remove m name) to_name h ∙ sym
-              (get-remove_other (insert m to_name h) name to_name (λ x. differ (sym x)) ∙ get-insert_same m to_name h))
+          (get-remove_other (insert m to_name h) name to_name (λ x. differ (sym x)) ∙ get-insert_same m to_name h))
       | inr ne ↦ get-insert_other (remove m name) to_name h q ne
           ∙ (elim (bytes_or_not q name) as (λ _. get (remove m name) q ≡ get (remove (insert m to_name h) name) q) [
-        | inl e ↦ subst (λ q. get (remove m name) q ≡ get (remove (insert m to_name h) name) q) (sym e)
-            (get-remove_same m name ∙ sym (get-remove_same (insert m to_name h) name))
-        | inr nn ↦ get-remove_other m name q nn
-            ∙ sym (get-remove_other (insert m to_name h) name q nn ∙ get-insert_other m to_name h q ne)
-      ])
+            | inl e ↦ subst (λ q. get (remove m name) q ≡ get (remove (insert m to_name h) name) q) (sym e)
+                (get-remove_same m name ∙ sym (get-remove_same (insert m to_name h) name))
+            | inr nn ↦ get-remove_other m name q nn
+                ∙ sym (get-remove_other (insert m to_name h) name q nn ∙ get-insert_other m to_name h q ne)
+          ])
     ])
 
 both : (name to_name h : List ℕ) → name ≢ to_name → (n : Node) →
@@ -49,36 +49,36 @@ module _ (t : Tree) (d name e to_name h : List ℕ) (nd ne : Node) (is_d : node_
   at : (q : List ℕ) → node_at (edited (edited t d F) e G) q ≡ node_at (edited (edited t e G) d F) q
   at q = elim (bytes_or_not d e) as
       (λ _. node_at (edited (edited t d F) e G) q ≡ node_at (edited (edited t e G) d F) q) [
-    | inl same ↦ subst (λ e. node_at (edited (edited t d F) e G) q ≡ node_at (edited (edited t e G) d F) q) same
-        (one q (differ same))
-    | inr apart ↦ elim (bytes_or_not q d) as
-        (λ _. node_at (edited (edited t d F) e G) q ≡ node_at (edited (edited t e G) d F) q) [
-      | inl x ↦ subst (λ q. node_at (edited (edited t d F) e G) q ≡ node_at (edited (edited t e G) d F) q) (sym x)
-          (node_at-edited_other (edited t d F) e G d apart ∙ node_at-edited_same t d F nd is_d
-              ∙ sym (node_at-edited_same (edited t e G) d F nd (node_at-edited_other t e G d apart ∙ is_d)))
-      | inr not_d ↦ elim (bytes_or_not q e) as
-          (λ _. node_at (edited (edited t d F) e G) q ≡ node_at (edited (edited t e G) d F) q) [
-        | inl x ↦ subst (λ q. node_at (edited (edited t d F) e G) q ≡ node_at (edited (edited t e G) d F) q) (sym x)
-            (node_at-edited_same (edited t d F) e G ne (node_at-edited_other t d F e (λ y. apart (sym y)) ∙ is_e)
-                ∙ sym (node_at-edited_other (edited t e G) d F e (λ y. apart (sym y))
-                ∙ node_at-edited_same t e G ne is_e))
-        | inr not_e ↦ node_at-edited_other (edited t d F) e G q not_e ∙ node_at-edited_other t d F q not_d
-            ∙ sym (node_at-edited_other (edited t e G) d F q not_d ∙ node_at-edited_other t e G q not_e)
+        | inl same ↦ subst (λ e. node_at (edited (edited t d F) e G) q ≡ node_at (edited (edited t e G) d F) q) same
+            (one q (differ same))
+        | inr apart ↦ elim (bytes_or_not q d) as
+            (λ _. node_at (edited (edited t d F) e G) q ≡ node_at (edited (edited t e G) d F) q) [
+              | inl x ↦ subst (λ q. node_at (edited (edited t d F) e G) q ≡ node_at (edited (edited t e G) d F) q) (sym x)
+                  (node_at-edited_other (edited t d F) e G d apart ∙ node_at-edited_same t d F nd is_d
+                  ∙ sym (node_at-edited_same (edited t e G) d F nd (node_at-edited_other t e G d apart ∙ is_d)))
+              | inr not_d ↦ elim (bytes_or_not q e) as
+                  (λ _. node_at (edited (edited t d F) e G) q ≡ node_at (edited (edited t e G) d F) q) [
+                    | inl x ↦ subst (λ q. node_at (edited (edited t d F) e G) q ≡ node_at (edited (edited t e G) d F) q) (sym x)
+                        (node_at-edited_same (edited t d F) e G ne (node_at-edited_other t d F e (λ y. apart (sym y)) ∙ is_e)
+                        ∙ sym (node_at-edited_other (edited t e G) d F e (λ y. apart (sym y))
+                        ∙ node_at-edited_same t e G ne is_e))
+                    | inr not_e ↦ node_at-edited_other (edited t d F) e G q not_e ∙ node_at-edited_other t d F q not_d
+                        ∙ sym (node_at-edited_other (edited t e G) d F q not_d ∙ node_at-edited_other t e G q not_e)
+                  ]
+            ]
       ]
-    ]
-  ]
     where
       one : (q : List ℕ) → name ≢ to_name → node_at (edited (edited t d F) d G) q ≡ node_at
           (edited (edited t d G) d F) q
       one q ne_names = elim (bytes_or_not q d) as
           (λ _. node_at (edited (edited t d F) d G) q ≡ node_at (edited (edited t d G) d F) q) [
-        | inl x ↦ subst (λ q. node_at (edited (edited t d F) d G) q ≡ node_at (edited (edited t d G) d F) q) (sym x)
-            (node_at-edited_same (edited t d F) d G (F nd) (node_at-edited_same t d F nd is_d)
+            | inl x ↦ subst (λ q. node_at (edited (edited t d F) d G) q ≡ node_at (edited (edited t d G) d F) q) (sym x)
+                (node_at-edited_same (edited t d F) d G (F nd) (node_at-edited_same t d F nd is_d)
                 ∙ ap Some (both name to_name h ne_names nd)
                 ∙ sym (node_at-edited_same (edited t d G) d F (G nd) (node_at-edited_same t d G nd is_d)))
-        | inr not_d ↦ node_at-edited_other (edited t d F) d G q not_d ∙ node_at-edited_other t d F q not_d
-            ∙ sym (node_at-edited_other (edited t d G) d F q not_d ∙ node_at-edited_other t d G q not_d)
-      ]
+            | inr not_d ↦ node_at-edited_other (edited t d F) d G q not_d ∙ node_at-edited_other t d F q not_d
+                ∙ sym (node_at-edited_other (edited t d G) d F q not_d ∙ node_at-edited_other t d G q not_d)
+          ]
 
   pub rename_order : named (unnamed t d name) e to_name h ≡ unnamed (named t e to_name h) d name
   rename_order = same_trees (edited (edited t d F) e G) (edited (edited t e G) d F)

@@ -105,5 +105,5 @@ made_node t dir name content h new m l =
     let k = some_and (names_at t dir) (λ m. get m name ≡ None) l in
     let d = and_then_some (λ (n : Node). names_in n.content) (node_at t dir) k.0 k.1 in
     node_at-edited_other (with_node t h (new_node m.number content)) dir (with_names (λ k. insert k name h)) h
-        (λ e. some_none d.1 (ap (node_at t) (sym e) ∙ m.new_handle))
+    (λ e. some_none d.1 (ap (node_at t) (sym e) ∙ m.new_handle))
     ∙ get-insert_same t.nodes h (new_node m.number content)

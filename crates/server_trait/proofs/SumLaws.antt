@@ -28,7 +28,7 @@ module _ {K X : Type 0} {R : K → K → Ordering} (o : IsTotalOrder R) (f : X �
   find_below x y [] p h = refl
   find_below x y (e ∷ es) p h =
       ap (λ r. cond (is_eq r) (Some e.1) (find R x es))
-          (o.trans x y e.0 p (less _ (first (is_lt (R y e.0)) (below_all R y es) h)))
+      (o.trans x y e.0 p (less _ (first (is_lt (R y e.0)) (below_all R y es) h)))
       ∙ find_below x y es p (second (is_lt (R y e.0)) (below_all R y es) h)
 
   sum_put-new : (k : K) (v : X) (es : List (K × X)) → find R k es ≡ None →
@@ -36,8 +36,8 @@ module _ {K X : Type 0} {R : K → K → Ordering} (o : IsTotalOrder R) (f : X �
   sum_put-new k v [] none = refl
   sum_put-new k v (e ∷ es) none =
       elim (R k e.0) as (λ r. cond (is_eq r) (Some e.1) (find R k es) ≡ None →
-          sum_values f (by_order r ((k, v) ∷ e ∷ es) ((e.0, v) ∷ es) (e ∷ put R k v es)) ≡ f v +
-          (f e.1 + sum_values f es)) [
+      sum_values f (by_order r ((k, v) ∷ e ∷ es) ((e.0, v) ∷ es) (e ∷ put R k v es)) ≡ f v +
+      (f e.1 + sum_values f es)) [
         | Less ↦ λ _. refl
         | Equal ↦ λ no. absurd (let bad : Some e.1 ≡ None = no in cc)
         | Greater ↦ λ n. let ih = sum_put-new k v es n in omega (arith, ih)
@@ -48,8 +48,8 @@ module _ {K X : Type 0} {R : K → K → Ordering} (o : IsTotalOrder R) (f : X �
   sum_put-old k v u [] s is = absurd (let bad : None ≡ Some u = is in cc)
   sum_put-old k v u (e ∷ es) s is =
       elim (R k e.0) as (λ r. R k e.0 ≡ r → cond (is_eq r) (Some e.1) (find R k es) ≡ Some u →
-          sum_values f (by_order r ((k, v) ∷ e ∷ es) ((e.0, v) ∷ es) (e ∷ put R k v es)) + f u ≡ f v +
-          (f e.1 + sum_values f es)) [
+      sum_values f (by_order r ((k, v) ∷ e ∷ es) ((e.0, v) ∷ es) (e ∷ put R k v es)) + f u ≡ f v +
+      (f e.1 + sum_values f es)) [
         | Less ↦ λ p h. absurd
             (let none = find_below k e.0 es p (first (below_all R e.0 es) (is_sorted R es) s) in
             let bad : None ≡ Some u = sym none ∙ h in cc)
@@ -68,13 +68,13 @@ module _ {K X : Type 0} {R : K → K → Ordering} (o : IsTotalOrder R) (f : X �
   unfolding total
   total-insert_old m k v u is =
       ap (λ l. sum_values f l + f u) (entries-insert o m k v)
-          ∙ sum_put-old k v u (entries m) (entries_sorted m) (sym (get-entries m k) ∙ is)
+      ∙ sum_put-old k v u (entries m) (entries_sorted m) (sym (get-entries m k) ∙ is)
 
   find_tied : (x y : K) (es : List (K × X)) → R x y ≡ Equal → T (below_all R y es) → find R x es ≡ None
   find_tied x y [] p h = refl
   find_tied x y (e ∷ es) p h =
       ap (λ r. cond (is_eq r) (Some e.1) (find R x es))
-          (o.congr x y e.0 p ∙ less _ (first (is_lt (R y e.0)) (below_all R y es) h))
+      (o.congr x y e.0 p ∙ less _ (first (is_lt (R y e.0)) (below_all R y es) h))
       ∙ find_tied x y es p (second (is_lt (R y e.0)) (below_all R y es) h)
 
   sum_none : (es : List (K × X)) → T (is_sorted R es) → ((k : K) (v : X) → find R k es ≡ Some v → f v ≡ 0) →

@@ -67,9 +67,9 @@ same_answers m n h = same_map nat_list_cmp_total (slice_cmp-IsAntisymmetric nat_
 put_back : {X : Type 0} (m : ByBytes X) (k : List ℕ) (v : X) → get m k ≡ Some v → insert (remove m k) k v ≡ m
 put_back m k v is = same_answers (insert (remove m k) k v) m
     (λ q. elim (bytes_or_not q k) as (λ _. get (insert (remove m k) k v) q ≡ get m q) [
-  | inl e ↦ subst (λ x. get (insert (remove m k) k v) x ≡ get m x) (sym e) (get-insert_same (remove m k) k v ∙ sym is)
-  | inr ne ↦ get-insert_other (remove m k) k v q ne ∙ get-remove_other m k q ne
-])
+      | inl e ↦ subst (λ x. get (insert (remove m k) k v) x ≡ get m x) (sym e) (get-insert_same (remove m k) k v ∙ sym is)
+      | inr ne ↦ get-insert_other (remove m k) k v q ne ∙ get-remove_other m k q ne
+    ])
 
 -- a value's share of a sum
 pub total-remove : {X : Type 0} (f : X → ℕ) (m : ByBytes X) (k : List ℕ) (v : X) → get m k ≡ Some v →
@@ -152,9 +152,9 @@ pub node_at-edited_other : (t : Tree) (h : List ℕ) (f : Node → Node) (q : Li
     node_at (edited t h f) q ≡ node_at t q
 node_at-edited_other t h f q ne = elim (node_at t h) as
     (λ o. node_at t h ≡ o → node_at (edited t h f) q ≡ node_at t q) [
-  | None ↦ λ is. ap (λ t. node_at t q) (edited-none t h f is)
-  | Some n ↦ λ is. ap (λ t. node_at t q) (edited-some t h f n is) ∙ get-insert_other t.nodes h (f n) q ne
-] refl
+      | None ↦ λ is. ap (λ t. node_at t q) (edited-none t h f is)
+      | Some n ↦ λ is. ap (λ t. node_at t q) (edited-some t h f n is) ∙ get-insert_other t.nodes h (f n) q ne
+    ] refl
 
 -- THE BYTES THAT A TREE USES
 
@@ -172,7 +172,7 @@ unfolding used
 used-edited t h f n is =
     let e = total-insert_old nat_list_cmp_total bytes_of_node t.nodes h (f n) n is in
     let same : total bytes_of_node (edited t h f).nodes ≡ total bytes_of_node (insert t.nodes h (f n)) = ap
-        (λ (t : Tree). total bytes_of_node t.nodes) (edited-some t h f n is) in
+    (λ (t : Tree). total bytes_of_node t.nodes) (edited-some t h f n is) in
     omega arith
 
 pub used-without_node : (t : Tree) (h : List ℕ) (n : Node) → node_at t h ≡ Some n →
@@ -194,7 +194,7 @@ names_to-some (BytesOf b) m h name is e = absurd (let bad : None ≡ Some m = is
 names_to-some (TextOf x) m h name is e = absurd (let bad : None ≡ Some m = is in cc)
 names_to-some (NamesOf k) m h name is e =
     let big = share (λ x. cond (bytes_eq x h) 1 0) k name h
-        (let same : k ≡ m = (let q : Some k ≡ Some m = is in cc) in ap (λ k. get k name) same ∙ e) in
+    (let same : k ≡ m = (let q : Some k ≡ Some m = is in cc) in ap (λ k. get k name) same ∙ e) in
     let here = one h in
     omega (arith, big, here)
 
@@ -222,9 +222,9 @@ names_to-none (BytesOf b) h none = refl
 names_to-none (TextOf x) h none = refl
 names_to-none (NamesOf m) h none = total-none nat_list_cmp_total (λ x. cond (bytes_eq x h) 1 0) m
     (λ q x is. elim (bytes_eq x h) as (λ b. bytes_eq x h ≡ b → cond b 1 0 ≡ zero) [
-  | true ↦ λ t. absurd (none m q refl (is ∙ ap Some ((bytes_eq-Decides x h).0 t)))
-  | false ↦ λ _. refl
-] refl)
+      | true ↦ λ t. absurd (none m q refl (is ∙ ap Some ((bytes_eq-Decides x h).0 t)))
+      | false ↦ λ _. refl
+    ] refl)
 
 -- to what has no name no name counts
 pub links-none : (t : Tree) (h : List ℕ) → ¬ (IsNamed t h) → links t h ≡ 0

@@ -38,7 +38,7 @@ Attr old h r new = Called (λ t. Outcome (λ a after. IsSomeAnd (node_at t h) (I
 abbrev pub SetAttr : Server → List ℕ → ℕ → ℕ → ℕ → Result Unit SrvErr → Server → Type 0
 SetAttr old h mode uid gid r new =
     Called (λ t. Outcome (λ _ after. after ≡ Some (edited t h (with_attr mode uid gid)))
-        (NodeErr h t) t) old r new
+    (NodeErr h t) t) old r new
 
 -- FILES AND LINKS
 
@@ -52,7 +52,7 @@ ContentErr view h t e = ⊥
 abbrev pub Read : Server → List ℕ → ℕ → ℕ → Result (Vec ℕ Global) SrvErr → Server → Type 0
 Read old h offset count r new =
     Called (λ t. Outcome (λ v after.
-        (option_map (λ b. take count (drop offset b)) (bytes_at t h) ≡ Some v.items) ×
+    (option_map (λ b. take count (drop offset b)) (bytes_at t h) ≡ Some v.items) ×
     (after ≡ Some t)) (ContentErr bytes_in h t) t) old r new
 
 -- `read_link`: the text
@@ -88,7 +88,7 @@ SetSizeErr limits h size t e = ContentErr bytes_in h t e
 abbrev pub SetSize : Server → List ℕ → ℕ → Result Unit SrvErr → Server → Type 0
 SetSize old h size r new = Called
     (λ t. Outcome (λ _ after. after ≡ Some (edited t h (with_bytes (resized size))))
-        (SetSizeErr old.limits h size t)
+    (SetSizeErr old.limits h size t)
     t) old r new
 
 -- NAMES
@@ -108,7 +108,7 @@ LookupErr dir name t e = DirErr dir t e
 abbrev pub Lookup : Server → List ℕ → List ℕ → Result (List ℕ) SrvErr → Server → Type 0
 Lookup old dir name r new = Called
     (λ t. Outcome (λ h after. (target t dir name ≡ Some h) × (after ≡ Some t))
-        (LookupErr dir name t) t) old r new
+    (LookupErr dir name t) t) old r new
 
 -- each name of the directory stands in the list once, in any order
 pub record Lists (rows : List Listed) (names : Names) : Type 0 where
@@ -122,7 +122,7 @@ pub record Lists (rows : List Listed) (names : Names) : Type 0 where
 abbrev pub ListNames : Server → List ℕ → Result (Vec Listed Global) SrvErr → Server → Type 0
 ListNames old dir r new = Called
     (λ t. Outcome (λ rows after. IsSomeAnd (names_at t dir) (Lists rows.items) × (after ≡ Some t))
-        (DirErr dir t) t)
+    (DirErr dir t) t)
     old r new
 
 -- NEW NAMES

@@ -47,7 +47,7 @@ opaque_at : {A : Type 0} (max : ℕ) (next : List ℕ → Grammar A) (value : A)
 unfolding spell_opaque
 opaque_at max next value text s =
     let p : text ≡ spell_word (length s.0) ++ (spell_fixed s.0 ++ s.1) = s.3
-        ∙ append_assoc (spell_word (length s.0)) (spell_fixed s.0) s.1 in
+    ∙ append_assoc (spell_word (length s.0)) (spell_fixed s.0) s.1 in
     record {
       x = s.0;
       more = s.1;
@@ -84,15 +84,15 @@ early max after next lim h bytes fits lt low =
     let small : length (zeros (least_word bytes)) ≤ max = omega (arith, len) in
     let l = h (zeros (least_word bytes)) small in
     let whole : bytes ++ (filling bytes ++ (spell_fixed (zeros (least_word bytes)) ++ l.text)) ≡ spell_opaque
-        (zeros (least_word bytes)) ++ l.text
+    (zeros (least_word bytes)) ++ l.text
     = sym (append_assoc bytes (filling bytes) (spell_fixed (zeros (least_word bytes)) ++ l.text))
-        ∙ ap (λ (t : List ℕ). t ++ (spell_fixed (zeros (least_word bytes)) ++ l.text))
-        (sym f.word_is ∙ ap spell_word (sym len)) ∙ sym
-        (append_assoc (spell_word (length (zeros (least_word bytes))))
-        (spell_fixed (zeros (least_word bytes))) l.text) in
+    ∙ ap (λ (t : List ℕ). t ++ (spell_fixed (zeros (least_word bytes)) ++ l.text))
+    (sym f.word_is ∙ ap spell_word (sym len)) ∙ sym
+    (append_assoc (spell_word (length (zeros (least_word bytes))))
+    (spell_fixed (zeros (least_word bytes))) l.text) in
     let s : Spells (grammar.item (any_opaque max) next) l.value
-        (bytes ++ (filling bytes ++ (spell_fixed (zeros (least_word bytes)) ++ l.text))) =
-        (zeros (least_word bytes), l.text, (omega (arith, len), small, refl), whole, l.spells) in
+    (bytes ++ (filling bytes ++ (spell_fixed (zeros (least_word bytes)) ++ l.text))) =
+    (zeros (least_word bytes), l.text, (omega (arith, len), small, refl), whole, l.spells) in
     let o = opaque_at max next l.value _ s in
     record {
       proper = omega arith;
@@ -210,18 +210,18 @@ late_whole max next bytes why e long = record {
   none_before = λ value text more s is.
       let w = opaque_at max next value text s in
       refuted max bytes why e w.x (w.more ++ more) w.small w.le
-          (is ∙ ap (λ (t : List ℕ). t ++ more) w.whole ∙ append_assoc (spell_opaque w.x) w.more more);
+      (is ∙ ap (λ (t : List ℕ). t ++ more) w.whole ∙ append_assoc (spell_opaque w.x) w.more more);
   none_behind = λ value more s.
       let w = opaque_at max next value (bytes ++ more) s in
       let n = len_behind bytes more w (omega arith) in
       let le : length (spell_opaque w.x) ≤ length bytes = subst (λ (k : ℕ). k ≤ length bytes)
-          (ap (λ (k : ℕ). 4 + (k + padding k)) n ∙ sym (opaque_len w.x)) long in
+      (ap (λ (k : ℕ). 4 + (k + padding k)) n ∙ sym (opaque_len w.x)) long in
       let front : take (length (spell_opaque w.x)) bytes ≡ spell_opaque w.x = sym
-          (take-append-le (length (spell_opaque w.x)) bytes more le) ∙ ap (take (length (spell_opaque w.x))) w.whole
-          ∙ take_at (spell_opaque w.x) w.more (length (spell_opaque w.x)) refl in
+      (take-append-le (length (spell_opaque w.x)) bytes more le) ∙ ap (take (length (spell_opaque w.x))) w.whole
+      ∙ take_at (spell_opaque w.x) w.more (length (spell_opaque w.x)) refl in
       refuted max bytes why e w.x (drop (length (spell_opaque w.x)) bytes) w.small w.le
-          (sym (take-append-drop (length (spell_opaque w.x)) bytes)
-          ∙ ap (λ (t : List ℕ). t ++ drop (length (spell_opaque w.x)) bytes) front);
+      (sym (take-append-drop (length (spell_opaque w.x)) bytes)
+      ∙ ap (λ (t : List ℕ). t ++ drop (length (spell_opaque w.x)) bytes) front);
 }
 
 -- padding that has come and is not zero is that of no spelling
@@ -233,11 +233,11 @@ zeros_fail n tail more x m len lt e bad = elim (cases_lt (length tail) n) [
   | inr many ↦
       let front : drop n tail ++ more ≡ zeros (padding (length x)) ++ m
       = sym (drop_at (take n tail) (drop n tail ++ more) n (length-take-le n tail many))
-          ∙ ap (drop n) (sym (append_assoc (take n tail) (drop n tail) more)
-          ∙ ap (λ (t : List ℕ). t ++ more) (take-append-drop n tail) ∙ e)
-          ∙ drop_at x (zeros (padding (length x)) ++ m) n len in
+      ∙ ap (drop n) (sym (append_assoc (take n tail) (drop n tail) more)
+      ∙ ap (λ (t : List ℕ). t ++ more) (take-append-drop n tail) ∙ e)
+      ∙ drop_at x (zeros (padding (length x)) ++ m) n len in
       let few : length (drop n tail) ≤ padding (length x) = subst (λ (k : ℕ). length (drop n tail) ≤ padding k)
-          (sym len) (omega (arith, length-drop n tail)) in
+      (sym len) (omega (arith, length-drop n tail)) in
       not_true (are_zeros (drop n tail)) bad (zeros_front (drop n tail) more m (padding (length x)) few front)
 ]
 
@@ -251,21 +251,21 @@ late_bad max next bytes four lt bad = record {
       let n = len_before w bytes more is in
       let whole : length bytes ≡ length text + length more = ap length is ∙ length-append text more in
       let one : length w.x + padding (length w.x) ≡ size_of bytes + padding (size_of bytes) = ap
-          (λ (k : ℕ). k + padding k) (sym n) in
+      (λ (k : ℕ). k + padding k) (sym n) in
       omega (arith, whole, w.len, one, length-drop 4 bytes);
   none_behind = λ value more s.
       let w = opaque_at max next value (bytes ++ more) s in
       let n = len_behind bytes more w four in
       let tail = drop 4 bytes in
       let joined : take 4 bytes ++ (drop 4 bytes ++ more) ≡ spell_word (length w.x)
-          ++ (spell_fixed w.x ++ w.more) = sym (append_assoc (take 4 bytes) (drop 4 bytes) more)
-          ∙ ap (λ (t : List ℕ). t ++ more) (take-append-drop 4 bytes) ∙ w.parts in
+      ++ (spell_fixed w.x ++ w.more) = sym (append_assoc (take 4 bytes) (drop 4 bytes) more)
+      ∙ ap (λ (t : List ℕ). t ++ more) (take-append-drop 4 bytes) ∙ w.parts in
       let behind : drop 4 bytes ++ more ≡ spell_fixed w.x
-          ++ w.more = sym (drop_at (take 4 bytes) (drop 4 bytes ++ more) 4 (length-take-le 4 bytes four))
-          ∙ ap (drop 4) joined ∙ drop_at (spell_word (length w.x)) (spell_fixed w.x ++ w.more) 4
-          (word_len (length w.x)) in
+      ++ w.more = sym (drop_at (take 4 bytes) (drop 4 bytes ++ more) 4 (length-take-le 4 bytes four))
+      ∙ ap (drop 4) joined ∙ drop_at (spell_word (length w.x)) (spell_fixed w.x ++ w.more) 4
+      (word_len (length w.x)) in
       zeros_fail (size_of bytes) (drop 4 bytes) more w.x w.more (sym n) lt
-          (behind ∙ append_assoc w.x (zeros (padding (length w.x))) w.more) bad;
+      (behind ∙ append_assoc w.x (zeros (padding (length w.x))) w.more) bad;
 }
 
 -- a piece that is whole once zeros stand behind what has come
@@ -279,19 +279,19 @@ completed : (n : ℕ) (tail : List ℕ) → length tail < n + padding n → are_
 completed n tail lt ok =
     let k = n + padding n - length tail in
     let size : length (tail ++ zeros (n + padding n - length tail)) ≡ n + padding n = length-append tail
-        (zeros (n + padding n - length tail)) ∙ ap (λ (j : ℕ). length tail + j)
-        (zeros_len (n + padding n - length tail)) ∙ omega arith in
+    (zeros (n + padding n - length tail)) ∙ ap (λ (j : ℕ). length tail + j)
+    (zeros_len (n + padding n - length tail)) ∙ omega arith in
     let full = tail ++ zeros (n + padding n - length tail) in
     let long : ltb (length (tail ++ zeros (n + padding n - length tail))) (n + padding n) ≡ false = le-ltb _ _
-        (omega (arith, size)) in
+    (omega (arith, size)) in
     let pad : are_zeros (take (padding n) (drop n (tail ++ zeros (n + padding n - length tail)))) ≡ true = zeros_take
-        (padding n) _ (zeros_drop n tail (n + padding n - length tail) ok) in
+    (padding n) _ (zeros_drop n tail (n + padding n - length tail) ok) in
     let e : piece_in n (tail ++ zeros (n + padding n - length tail)) ≡ Ok
-        (take n (tail ++ zeros (n + padding n - length tail)), n + padding n) = rw (long, pad) refl in
+    (take n (tail ++ zeros (n + padding n - length tail)), n + padding n) = rw (long, pad) refl in
     let p = piece_took n (tail ++ zeros (n + padding n - length tail))
-        (take n (tail ++ zeros (n + padding n - length tail)), n + padding n) e in
+    (take n (tail ++ zeros (n + padding n - length tail)), n + padding n) e in
     let none : drop (n + padding n) (tail ++ zeros (n + padding n - length tail)) ≡ [] = nil_from_length _
-        (omega (arith, size, length-drop (n + padding n) (tail ++ zeros (n + padding n - length tail)))) in
+    (omega (arith, size, length-drop (n + padding n) (tail ++ zeros (n + padding n - length tail)))) in
     record {
       x = take n (tail ++ zeros (n + padding n - length tail));
       filler = zeros (n + padding n - length tail);
@@ -304,8 +304,8 @@ late_short : {A : Type 0} (max after : ℕ) (next : List ℕ → Grammar A) →
     ((x : List ℕ) → length x ≤ max → HasLeast (next x) after) → (bytes : List ℕ) → IsBytes bytes → 4 ≤ length bytes →
     size_of bytes ≤ max
     → length (drop 4 bytes) < size_of bytes + padding (size_of bytes) →
-        are_zeros (drop (size_of bytes) (drop 4 bytes)) ≡ true →
-        IsShort (grammar.item (any_opaque max) next) bytes (size_of bytes + padding (size_of bytes) + (4 + after))
+    are_zeros (drop (size_of bytes) (drop 4 bytes)) ≡ true →
+    IsShort (grammar.item (any_opaque max) next) bytes (size_of bytes + padding (size_of bytes) + (4 + after))
 unfolding spell_opaque spell_word opaque_at
 late_short max after next h bytes fits four le lt ok =
     let k = size_of bytes + padding (size_of bytes) - length (drop 4 bytes) in
@@ -316,24 +316,29 @@ late_short max after next h bytes fits four le lt ok =
     let front : take 4 bytes ≡ spell_word (length c.x) = sym f.0 ∙ ap spell_word (sym c.len) in
     let whole : bytes ++ (c.filler ++ l.text) ≡ spell_opaque c.x ++ l.text
     = ap (λ (t : List ℕ). t ++ (c.filler ++ l.text)) (sym (take-append-drop 4 bytes))
-        ∙ append_assoc (take 4 bytes) (drop 4 bytes) (c.filler ++ l.text)
-        ∙ ap (λ (t : List ℕ). take 4 bytes ++ t)
-        (sym (append_assoc (drop 4 bytes) c.filler l.text) ∙ ap (λ (t : List ℕ). t ++ l.text) c.whole)
+    ∙ append_assoc (take 4 bytes) (drop 4 bytes) (c.filler ++ l.text)
+    ∙ ap (λ (t : List ℕ). take 4 bytes ++ t)
+    (sym (append_assoc (drop 4 bytes) c.filler l.text) ∙ ap (λ (t : List ℕ). t ++ l.text) c.whole)
     ∙ ap (λ (t : List ℕ). t ++ (spell_fixed c.x ++ l.text)) front
-        ∙ sym (append_assoc (spell_word (length c.x)) (spell_fixed c.x) l.text) in
+    ∙ sym (append_assoc (spell_word (length c.x)) (spell_fixed c.x) l.text) in
     let s : Spells (grammar.item (any_opaque max) next) l.value (bytes ++ (c.filler ++ l.text)) =
-        (c.x, l.text, (omega (arith, f.1, c.len), x_le, refl), whole, l.spells) in
+    (c.x, l.text, (omega (arith, f.1, c.len), x_le, refl), whole, l.spells) in
     let o = opaque_at max next l.value _ s in
     record {
       proper = omega (arith, length-drop 4 bytes);
-      attained = (l.value, c.filler ++ l.text, s, o.len ∙ ap (λ (k : ℕ). 4 + ((k + padding k) + length l.text)) c.len
-          ∙ ap (λ (k : ℕ). 4 + ((size_of bytes + padding (size_of bytes)) + k)) l.len ∙ omega arith);
+      attained = (
+        l.value,
+        c.filler ++ l.text,
+        s,
+        o.len ∙ ap (λ (k : ℕ). 4 + ((k + padding k) + length l.text)) c.len
+            ∙ ap (λ (k : ℕ). 4 + ((size_of bytes + padding (size_of bytes)) + k)) l.len ∙ omega arith,
+      );
       least = λ value more t.
           let w = opaque_at max next value (bytes ++ more) t in
           let n = len_behind bytes more w four in
           let d = (h w.x w.le).least value w.more w.spells in
           let one : length w.x + padding (length w.x) ≡ size_of bytes + padding (size_of bytes) = ap
-              (λ (k : ℕ). k + padding k) (sym n) in
+          (λ (k : ℕ). k + padding k) (sym n) in
           omega (arith, d, w.len, one);
     }
 
@@ -353,14 +358,14 @@ opaque_means max after next lim h bytes why fits e = elim (cases_lt (length byte
         rw (t, u) (late_long max next bytes four high)
     | inr low ↦ let u : ltb max (size_of bytes) ≡ false = le-ltb _ _ low in
         elim (cases_lt (length (drop 4 bytes)) (size_of bytes + padding (size_of bytes))) [
-      | inr long ↦ let v : ltb (length (drop 4 bytes)) (size_of bytes + padding (size_of bytes)) ≡ false =
-          le-ltb _ _ long in rw (t, u, v) (late_whole max next bytes why e (omega (arith, length-drop 4 bytes)))
-      | inl short ↦ let v : ltb (length (drop 4 bytes)) (size_of bytes + padding (size_of bytes)) ≡ true =
-          lt-ltb _ _ short in elim (which (are_zeros (drop (size_of bytes) (drop 4 bytes)))) [
-        | inl ok ↦ rw (t, u, v, ok) (late_short max after next h bytes fits four low short ok)
-        | inr bad ↦ rw (t, u, v, bad) (late_bad max next bytes four short bad)
-      ]
-    ]
+          | inr long ↦ let v : ltb (length (drop 4 bytes)) (size_of bytes + padding (size_of bytes)) ≡ false =
+              le-ltb _ _ long in rw (t, u, v) (late_whole max next bytes why e (omega (arith, length-drop 4 bytes)))
+          | inl short ↦ let v : ltb (length (drop 4 bytes)) (size_of bytes + padding (size_of bytes)) ≡ true =
+              lt-ltb _ _ short in elim (which (are_zeros (drop (size_of bytes) (drop 4 bytes)))) [
+                | inl ok ↦ rw (t, u, v, ok) (late_short max after next h bytes fits four low short ok)
+                | inr bad ↦ rw (t, u, v, bad) (late_bad max next bytes four short bad)
+              ]
+        ]
   ]
 ]
 
@@ -403,17 +408,17 @@ fixed_means size after next h bytes why e = elim (cases_lt (length bytes) (size 
       rw v (no_item (fixed size) (size + padding size) next bytes why (λ x f. fixed_len_of size x f) long e)
   | inl short ↦ let v : ltb (length bytes) (size + padding size) ≡ true = lt-ltb _ _ short in
       elim (which (are_zeros (drop size bytes))) [
-    | inl ok ↦ let c = completed size bytes short ok in
-        rw (v, ok) (cut_short (fixed size) next bytes c.filler c.x (size + padding size) after c.len c.whole (h c.x)
+        | inl ok ↦ let c = completed size bytes short ok in
+            rw (v, ok) (cut_short (fixed size) next bytes c.filler c.x (size + padding size) after c.len c.whole (h c.x)
             (fixed_len_of size c.x c.len) short
-        (λ value text s.
-        let n : length text ≡ length (spell_fixed s.0) + length s.1 = ap length s.3
+            (λ value text s.
+            let n : length text ≡ length (spell_fixed s.0) + length s.1 = ap length s.3
             ∙ length-append (spell_fixed s.0) s.1 in
-        omega (arith, n, fixed_len_of size s.0 s.2, (h s.0).least value s.1 s.4)))
-    | inr bad ↦ rw (v, bad) (cut_wrong (fixed size) next bytes (size + padding size) (fixed_all size) short
-        (λ x more behind f is. zeros_fail size bytes more x behind f short
+            omega (arith, n, fixed_len_of size s.0 s.2, (h s.0).least value s.1 s.4)))
+        | inr bad ↦ rw (v, bad) (cut_wrong (fixed size) next bytes (size + padding size) (fixed_all size) short
+            (λ x more behind f is. zeros_fail size bytes more x behind f short
             (is ∙ append_assoc x (zeros (padding (length x))) behind) bad))
-  ]
+      ]
 ]
 
 pub least_of_fixed : {A : Type 0} (size after : ℕ) (next : List ℕ → Grammar A) →

@@ -46,10 +46,12 @@ four : (a b d e : ℕ) → a < 256 → b < 256 → d < 256 → e < 256 →
     (spell_word (from_be_bytes w32 (a ∷ b ∷ d ∷ e ∷ [])) ≡ a ∷ b ∷ d ∷ e ∷ [])
     × (from_be_bytes w32 (a ∷ b ∷ d ∷ e ∷ []) < 2 ^ 32)
 unfolding spell_word
-four a b d e p q r s =
-    (be_bytes_4 (a ∷ b ∷ d ∷ e ∷ []) _ refl
-    (bytes_cons a (b ∷ d ∷ e ∷ []) p
-    (bytes_cons b (d ∷ e ∷ []) q (bytes_cons d (e ∷ []) r (bytes_cons e [] s bytes_nil)))) refl, omega arith)
+four a b d e p q r s = (
+  be_bytes_4 (a ∷ b ∷ d ∷ e ∷ []) _ refl
+      (bytes_cons a (b ∷ d ∷ e ∷ []) p
+      (bytes_cons b (d ∷ e ∷ []) q (bytes_cons d (e ∷ []) r (bytes_cons e [] s bytes_nil)))) refl,
+  omega arith,
+)
 
 pub filled : (bytes : List ℕ) → length bytes < 4 → IsBytes bytes → Filled bytes
 unfolding spell_word
@@ -95,9 +97,9 @@ no_item i n next bytes why size le e = record {
       (is ∙ ap (λ (t : List ℕ). t ++ more) s.3 ∙ append_assoc (spell i s.0) s.1 more);
   none_behind = λ value more s.
       let front : take n bytes ≡ spell i s.0 = sym (take-append-le n bytes more le) ∙ ap (take n) s.3
-          ∙ take_at (spell i s.0) s.1 n (size s.0 s.2) in
+      ∙ take_at (spell i s.0) s.1 n (size s.0 s.2) in
       refuted i bytes why e s.0 (drop n bytes) s.2
-          (sym (take-append-drop n bytes) ∙ ap (λ (t : List ℕ). t ++ drop n bytes) front);
+      (sym (take-append-drop n bytes) ∙ ap (λ (t : List ℕ). t ++ drop n bytes) front);
 }
 
 -- ---- cut words
@@ -132,14 +134,14 @@ completes (a ∷ b ∷ []) x lt fits low high =
     let p : a ≡ get_or (spell_word x) 0 0 = omega (arith, low, high, fits 0, fits 1) in
     let q : b ≡ get_or (spell_word x) 1 0 = omega (arith, low, high, fits 0, fits 1) in
     ap (λ (n : ℕ). n ∷ b ∷ drop 2 (spell_word x)) p ∙ ap
-        (λ (n : ℕ). get_or (spell_word x) 0 0 ∷ n ∷ drop 2 (spell_word x)) q
+    (λ (n : ℕ). get_or (spell_word x) 0 0 ∷ n ∷ drop 2 (spell_word x)) q
 completes (a ∷ b ∷ d ∷ []) x lt fits low high =
     let p : a ≡ get_or (spell_word x) 0 0 = omega (arith, low, high, fits 0, fits 1, fits 2) in
     let q : b ≡ get_or (spell_word x) 1 0 = omega (arith, low, high, fits 0, fits 1, fits 2) in
     let r : d ≡ get_or (spell_word x) 2 0 = omega (arith, low, high, fits 0, fits 1, fits 2) in
     ap (λ (n : ℕ). n ∷ b ∷ d ∷ drop 3 (spell_word x)) p
-        ∙ ap (λ (n : ℕ). get_or (spell_word x) 0 0 ∷ n ∷ d ∷ drop 3 (spell_word x)) q
-        ∙ ap (λ (n : ℕ). get_or (spell_word x) 0 0 ∷ get_or (spell_word x) 1 0 ∷ n ∷ drop 3 (spell_word x)) r
+    ∙ ap (λ (n : ℕ). get_or (spell_word x) 0 0 ∷ n ∷ d ∷ drop 3 (spell_word x)) q
+    ∙ ap (λ (n : ℕ). get_or (spell_word x) 0 0 ∷ get_or (spell_word x) 1 0 ∷ n ∷ drop 3 (spell_word x)) r
 completes (a ∷ b ∷ d ∷ e ∷ bytes) x lt fits low high = absurd (omega arith)
 
 -- bytes that some value of an item completes, behind which no value needs less
@@ -147,14 +149,19 @@ pub cut_short : {A : Type 0} (i : Item) (next : Value i → Grammar A) (bytes fi
     (size after : ℕ) → Fits i x → bytes ++ filler ≡ spell i x → HasLeast (next x) after → length (spell i x) ≡ size →
     length bytes < size
     → ((value : A) (text : List ℕ) → Spells (grammar.item i next) value text → size + after ≤ length text) →
-        IsShort (grammar.item i next) bytes (size + after)
+    IsShort (grammar.item i next) bytes (size + after)
 cut_short i next bytes filler x size after fits is l len lt least =
     let whole : bytes ++ (filler ++ l.text) ≡ spell i x ++ l.text = sym (append_assoc bytes filler l.text)
-        ∙ ap (λ (t : List ℕ). t ++ l.text) is in
+    ∙ ap (λ (t : List ℕ). t ++ l.text) is in
     record {
       proper = omega (arith, lt);
-      attained = (l.value, filler ++ l.text, (x, l.text, fits, whole, l.spells), ap length whole
-          ∙ length-append (spell i x) l.text ∙ ap (λ (k : ℕ). k + length l.text) len ∙ ap (λ (k : ℕ). size + k) l.len);
+      attained = (
+        l.value,
+        filler ++ l.text,
+        (x, l.text, fits, whole, l.spells),
+        ap length whole
+            ∙ length-append (spell i x) l.text ∙ ap (λ (k : ℕ). k + length l.text) len ∙ ap (λ (k : ℕ). size + k) l.len,
+      );
       least = λ value more s. least value (bytes ++ more) s;
     }
 
@@ -166,7 +173,7 @@ pub cut_wrong : {A : Type 0} (i : Item) (next : Value i → Grammar A) (bytes : 
 cut_wrong i next bytes size len lt never = record {
   none_before = λ value text more s is.
       let n : length bytes ≡ length (spell i s.0) + length s.1 + length more = ap length is ∙ length-append text more
-          ∙ ap (λ (k : ℕ). k + length more) (ap length s.3 ∙ length-append (spell i s.0) s.1) in
+      ∙ ap (λ (k : ℕ). k + length more) (ap length s.3 ∙ length-append (spell i s.0) s.1) in
       omega (arith, n, len s.0 s.2, lt);
   none_behind = λ value more s. never s.0 more s.1 s.2 s.3;
 }
@@ -183,7 +190,7 @@ item_least i next size after len h value text s =
 pub least_item : {A : Type 0} (i : Item) (next : Value i → Grammar A) (size after : ℕ) (x : Value i) → Fits i x →
     length (spell i x) ≡ size → HasLeast (next x) after → ((x : Value i) → Fits i x → size ≤ length (spell i x))
     → ((x : Value i) → Fits i x → (value : A) (text : List ℕ) → Spells (next x) value text → after ≤ length text) →
-        HasLeast (grammar.item i next) (size + after)
+    HasLeast (grammar.item i next) (size + after)
 least_item i next size after x fits len l all h = record {
   value = l.value;
   text = spell i x ++ l.text;
@@ -287,15 +294,25 @@ touched (range ∷ ranges) bytes h lt fits e = elim (either (meets bytes range) 
   | inl on ↦
       let q = both (nat_le (least_word bytes) range.1) (nat_le range.0 (most_word bytes)) on in
       let p : (least_word bytes ≤ range.1) × (range.0 ≤ most_word bytes) =
-          (grind (arith, nat_tests, q.0), grind (arith, nat_tests, q.1)) in
+      (grind (arith, nat_tests, q.0), grind (arith, nat_tests, q.1)) in
       let m = most_small bytes lt fits in
       let x = pick range.0 (least_word bytes) in
       let top = top_of range.0 (least_word bytes) range.1 (most_word bytes) x h.0.0 p m.1 in
-      record { x = x.0; is_one = or_left (is_in x.0 range) (within ranges x.0) (one_in x.0 range x.1 top.0);
-          small = omega (arith, top.0, h.0.1); low = x.2; high = top.1 }
+      record {
+        x = x.0;
+        is_one = or_left (is_in x.0 range) (within ranges x.0) (one_in x.0 range x.1 top.0);
+        small = omega (arith, top.0, h.0.1);
+        low = x.2;
+        high = top.1;
+      }
   | inr on ↦ let t = touched ranges bytes h.1 lt fits on in
-      record { x = t.x; is_one = or_right (is_in t.x range) (within ranges t.x) t.is_one; small = t.small; low = t.low;
-      high = t.high }
+      record {
+        x = t.x;
+        is_one = or_right (is_in t.x range) (within ranges t.x) t.is_one;
+        small = t.small;
+        low = t.low;
+        high = t.high;
+      }
 ]
 
 untouched : (ranges : List (ℕ × ℕ)) (bytes : List ℕ) (x : ℕ) → touches ranges bytes ≡ false → within ranges x ≡ true →
@@ -307,8 +324,8 @@ untouched (range ∷ ranges) bytes x e is p q =
       | inl on ↦
           let w = in_one x range on in
           let t : meets bytes range ≡ true = both_true (nat_le (least_word bytes) range.1)
-              (nat_le range.0 (most_word bytes)) (grind (arith, nat_tests, p, w.1))
-              (grind (arith, nat_tests, q, w.0)) in
+          (nat_le range.0 (most_word bytes)) (grind (arith, nat_tests, p, w.1))
+          (grind (arith, nat_tests, q, w.0)) in
           differ (meets bytes range) t n.0
       | inr on ↦ untouched ranges bytes x n.1 on p q
     ]
@@ -328,7 +345,7 @@ word_means ranges after next open_all h bytes why fits e = elim (cases_lt (lengt
         | inl on ↦
             let x = touched ranges bytes open_all lt fits on in
             rw (t, on) (cut_short (word (within ranges)) next bytes (drop (length bytes) (spell_word x.x)) x.x 4 after
-                (x.small, x.is_one) (completes bytes x.x lt fits x.low x.high) (h x.x) (word_len x.x) lt
+            (x.small, x.is_one) (completes bytes x.x lt fits x.low x.high) (h x.x) (word_len x.x) lt
             (item_least (word (within ranges)) next 4 after (word_all (within ranges)) (λ y f. (h y).least)))
         | inr off ↦ rw (t, off)
             (cut_wrong (word (within ranges)) next bytes 4 (word_all (within ranges)) lt (λ x more behind f is.
@@ -340,9 +357,11 @@ word_means ranges after next open_all h bytes why fits e = elim (cases_lt (lengt
 pub least_of_word : {A : Type 0} (range : ℕ × ℕ) (ranges : List (ℕ × ℕ)) (after : ℕ) (next : ℕ → Grammar A) →
     AreRanges (range ∷ ranges) → ((x : ℕ) → HasLeast (next x) after) →
     HasLeast (grammar.item (word (within (range ∷ ranges))) next) (4 + after)
-least_of_word range ranges after next open_all h = least_item (word (within (range ∷ ranges))) next 4 after range.0
-    (omega (arith, open_all.0.0, open_all.0.1), or_left (is_in range.0 range) (within ranges range.0)
-    (one_in range.0 range (omega arith) open_all.0.0)) (word_len range.0) (h range.0)
+least_of_word range ranges after next open_all h = least_item (word (within (range ∷ ranges))) next 4 after range.0 (
+  omega (arith, open_all.0.0, open_all.0.1),
+  or_left (is_in range.0 range) (within ranges range.0)
+      (one_in range.0 range (omega arith) open_all.0.0),
+) (word_len range.0) (h range.0)
     (word_all (within (range ∷ ranges))) (λ y f. (h y).least)
 
 -- ---- bools
@@ -365,8 +384,8 @@ bool_means after next l h bytes why fits e = elim (cases_lt (length bytes) 4) [
       elim (least_big bytes lt) [
         | inl z ↦ let u : eqb (least_word bytes) 0 ≡ true = grind (arith, nat_tests, z) in
             rw (t, u) (cut_short boolean next bytes (drop (length bytes) (spell_word 0)) false 4 after tt
-                (completes bytes 0 lt fits (omega (arith, z)) (omega arith)) l (word_len 0) lt
-                (item_least boolean next 4 after (λ x f. omega (arith, bool_len x)) (λ y f. h y)))
+            (completes bytes 0 lt fits (omega (arith, z)) (omega arith)) l (word_len 0) lt
+            (item_least boolean next 4 after (λ x f. omega (arith, bool_len x)) (λ y f. h y)))
         | inr big ↦ let u : eqb (least_word bytes) 0 ≡ false = grind (arith, nat_tests, big) in
             rw (t, u) (cut_wrong boolean next bytes 4 (λ x f. omega (arith, bool_len x)) lt (λ x more behind f is.
             let r = in_range bytes more behind (cond x 1 0) lt (omega (arith, bool_small x)) is in

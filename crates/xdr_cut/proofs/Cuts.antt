@@ -32,12 +32,12 @@ behind_spelled : {A : Type 0} (i : Item) (next : Value i → Grammar A) (x : Val
 behind_spelled i next x value tail fits s =
     let one = item_again i x tail fits in
     let two : item_in i (spell i x ++ tail) ≡ Ok (s.0, length (spell i s.0)) = ap (item_in i) s.3
-        ∙ item_again i s.0 s.1 s.2 in
+    ∙ item_again i s.0 s.1 s.2 in
     let p = same_front x s.0 (length (spell i x)) (length (spell i s.0)) (item_in i (spell i x ++ tail)) one two in
     let behind : tail ≡ s.1 = sym (drop_at (spell i x) tail (length (spell i x)) refl)
-        ∙ ap (drop (length (spell i x))) s.3 ∙ drop_at (spell i s.0) s.1 (length (spell i x)) (sym p.1) in
+    ∙ ap (drop (length (spell i x))) s.3 ∙ drop_at (spell i s.0) s.1 (length (spell i x)) (sym p.1) in
     subst (λ (y : Value i). Spells (next y) value tail) (sym p.0)
-        (subst (λ (t : List ℕ). Spells (next s.0) value t) (sym behind) s.4)
+    (subst (λ (t : List ℕ). Spells (next s.0) value t) (sym behind) s.4)
 
 abbrev further : ℕ → Option ℕ → Option ℕ
 further k None = None
@@ -58,23 +58,23 @@ means_behind i next x rest (Some n) fits h =
       );
       least = λ value more s.
           let t = h.least value more
-              (behind_spelled i next x value (rest ++ more) fits
-              (subst (λ (t : List ℕ). Spells (grammar.item i next) value t) (append_assoc (spell i x) rest more) s)) in
+          (behind_spelled i next x value (rest ++ more) fits
+          (subst (λ (t : List ℕ). Spells (grammar.item i next) value t) (append_assoc (spell i x) rest more) s)) in
           let len : length ((spell i x ++ rest) ++ more) ≡ length (spell i x) + length (rest ++ more) = ap length
-              (append_assoc (spell i x) rest more) ∙ length-append (spell i x) (rest ++ more) in
+          (append_assoc (spell i x) rest more) ∙ length-append (spell i x) (rest ++ more) in
           omega (arith, t, len);
     }
 means_behind i next x rest None fits h = record {
   none_before = λ value text more s is.
       let one : item_in i (spell i x ++ rest) ≡ Ok (s.0, length (spell i s.0)) = ap (item_in i)
-          (is ∙ ap (λ (t : List ℕ). t ++ more) s.3 ∙ append_assoc (spell i s.0) s.1 more)
-          ∙ item_again i s.0 (s.1 ++ more) s.2 in
+      (is ∙ ap (λ (t : List ℕ). t ++ more) s.3 ∙ append_assoc (spell i s.0) s.1 more)
+      ∙ item_again i s.0 (s.1 ++ more) s.2 in
       let p = same_front x s.0 (length (spell i x)) (length (spell i s.0)) (item_in i (spell i x ++ rest))
-          (item_again i x rest fits) one in
+      (item_again i x rest fits) one in
       let whole : spell i x ++ rest ≡ spell i s.0 ++ (s.1 ++ more) = is ∙ ap (λ (t : List ℕ). t ++ more) s.3
-          ∙ append_assoc (spell i s.0) s.1 more in
+      ∙ append_assoc (spell i s.0) s.1 more in
       let tail : rest ≡ s.1 ++ more = sym (drop_at (spell i x) rest (length (spell i x)) refl)
-          ∙ ap (drop (length (spell i x))) whole ∙ drop_at (spell i s.0) (s.1 ++ more) (length (spell i x)) (sym p.1) in
+      ∙ ap (drop (length (spell i x))) whole ∙ drop_at (spell i s.0) (s.1 ++ more) (length (spell i x)) (sym p.1) in
       h.none_before value s.1 more (subst (λ (y : Value i). Spells (next y) value s.1) (sym p.0) s.4) tail;
   none_behind = λ value more s. h.none_behind value more
       (behind_spelled i next x value (rest ++ more) fits
@@ -124,11 +124,11 @@ scans_stop (item i need next) c e h fits s =
           let t = item_took i c.rest d.0.0 w.0 fits w.1 in
           let behind : d.0.1.rest ≡ drop w.0 c.rest = ap (λ (z : Cursor). z.rest) w.2 in
           let place : d.0.1.at ≡ c.at + length (spell i d.0.0) = ap (λ (z : Cursor). z.at) w.2
-              ∙ ap (λ (k : ℕ). c.at + k) t.size in
+          ∙ ap (λ (k : ℕ). c.at + k) t.size in
           let r = scans_stop (next d.0.0) d.0.1 e (h.1 d.0.0 t.fits)
-              (subst IsBytes (sym behind) (IsBytes-drop w.0 c.rest fits)) d.2 in
+          (subst IsBytes (sym behind) (IsBytes-drop w.0 c.rest fits)) d.2 in
           let parts : spell i d.0.0 ++ d.0.1.rest ≡ c.rest = ap (λ (z : List ℕ). spell i d.0.0 ++ z) behind
-              ∙ sym t.parts in (
+          ∙ sym t.parts in (
             further (length (spell i d.0.0)) r.0,
             r.1 ∙ ap (λ (k : ℕ). cut_err k r.0) place ∙ cut_further c.at (length (spell i d.0.0)) r.0,
             subst (λ (z : List ℕ). Means (plain (item i need next)) z (further (length (spell i d.0.0)) r.0)) parts

@@ -29,7 +29,7 @@ reads_scans (item i need next) c x e =
     let b = bind_ok (item_at i c) (λ y. reads (plain (next y.0)) y.1) x e in
     let w = placed_ok c (item_in i c.rest) b.0 b.1 in
     let one : scan_item i need c ≡ Ok b.0 = ap (scanned c (need c.rest)) w.1
-        ∙ ap (λ (d : Cursor). Ok (b.0.0, d)) (sym w.2) in
+    ∙ ap (λ (d : Cursor). Ok (b.0.0, d)) (sym w.2) in
     ap (λ r. r >>= λ y. scans (next y.0) y.1) one ∙ reads_scans (next b.0.0) b.0.1 x b.2
 
 pub scans_again : {A : Type 0} (p : Plan A) (value : A) (text more : List ℕ) → Spells (plain p) value text →
@@ -86,9 +86,9 @@ behind a b c text e f = e ∙ ap (λ (t : List ℕ). a ++ t) f
 arm_told : {A : Type 0} (max : ℕ) (xs : List Field) (make : Maker (maybe max ∷ xs) A) (value : A) (text more : List ℕ)
     (b : Bool) → text ≡ spell_bool b ++ more
     → Spells (plain (cond b (item (any_opaque max) (opaque_need max (least xs)) λ x. plan_of xs (make (Some x)))
-        (plan_of xs (make None)))) value more
+    (plan_of xs (make None)))) value more
     → ((m : Maker xs A) (t : List ℕ) → Spells (plain (plan_of xs m)) value t → Told xs m value t) →
-        Told (maybe max ∷ xs) make value text
+    Told (maybe max ∷ xs) make value text
 arm_told max xs make value text more true e s h =
     let r = h (make (Some s.0)) s.1 s.4 in
     record {
@@ -101,22 +101,42 @@ arm_told max xs make value text more true e s h =
     }
 arm_told max xs make value text more false e s h =
     let r = h (make None) more s in
-    record { givens = (None, r.givens); is = r.is; text_is = behind (spell_bool false) more
-        (fields_text xs r.givens) text e r.text_is; fits = (tt, r.fits) }
+    record {
+      givens = (None, r.givens);
+      is = r.is;
+      text_is = behind (spell_bool false) more
+          (fields_text xs r.givens) text e r.text_is;
+      fits = (tt, r.fits);
+    }
 
 pub told : (A : Type 0) (xs : List Field) (make : Maker xs A) (value : A) (text : List ℕ) →
     Spells (plain (plan_of xs make)) value text → Told xs make value text
 told A [] make value text s = record { givens = tt; is = s.0; text_is = s.1; fits = tt }
 told A (number ranges ∷ xs) make value text s =
     let r = told A xs (make s.0) value s.1 s.4 in
-    record { givens = (s.0, r.givens); is = r.is; text_is = behind (spell_word s.0) s.1
-        (fields_text xs r.givens) text s.3 r.text_is; fits = (s.2, r.fits) }
+    record {
+      givens = (s.0, r.givens);
+      is = r.is;
+      text_is = behind (spell_word s.0) s.1
+          (fields_text xs r.givens) text s.3 r.text_is;
+      fits = (s.2, r.fits);
+    }
 told A (blob max ∷ xs) make value text s =
     let r = told A xs (make s.0) value s.1 s.4 in
-    record { givens = (s.0, r.givens); is = r.is; text_is = behind (spell_opaque s.0) s.1
-        (fields_text xs r.givens) text s.3 r.text_is; fits = (s.2.1, r.fits) }
+    record {
+      givens = (s.0, r.givens);
+      is = r.is;
+      text_is = behind (spell_opaque s.0) s.1
+          (fields_text xs r.givens) text s.3 r.text_is;
+      fits = (s.2.1, r.fits);
+    }
 told A (exactly size ∷ xs) make value text s =
     let r = told A xs (make s.0) value s.1 s.4 in
-    record { givens = (s.0, r.givens); is = r.is; text_is = behind (spell_fixed s.0) s.1
-        (fields_text xs r.givens) text s.3 r.text_is; fits = (s.2, r.fits) }
+    record {
+      givens = (s.0, r.givens);
+      is = r.is;
+      text_is = behind (spell_fixed s.0) s.1
+          (fields_text xs r.givens) text s.3 r.text_is;
+      fits = (s.2, r.fits);
+    }
 told A (maybe max ∷ xs) make value text s = arm_told max xs make value text s.1 s.0 s.3 s.4 (λ m t. told A xs m value t)

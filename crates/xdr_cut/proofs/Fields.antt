@@ -49,24 +49,30 @@ least_plan (maybe max ∷ xs) make h = bool_least (least xs) (λ b. plain (arm m
 arm_plan : {A : Type 0} (max : ℕ) (xs : List Field) (make : Maker (maybe max ∷ xs) A) → max < 2 ^ 32 →
     ((m : Maker xs A) → HasLeast (plain (plan_of xs m)) (least xs)) → ((m : Maker xs A) → IsPlan (plan_of xs m)) →
     (b : Bool) → IsPlan (arm max xs make b)
-arm_plan max xs make lim l h true =
-    (opaque_means max (least xs) (λ x. plain (plan_of xs (make (Some x)))) lim (λ x le. l (make (Some x))),
-    λ x fits. h (make (Some x)))
+arm_plan max xs make lim l h true = (
+  opaque_means max (least xs) (λ x. plain (plan_of xs (make (Some x)))) lim (λ x le. l (make (Some x))),
+  λ x fits. h (make (Some x)),
+)
 arm_plan max xs make lim l h false = h (make None)
 
 pub is_plan : (A : Type 0) (xs : List Field) (make : Maker xs A) → AreOpen xs → IsPlan (plan_of xs make)
 is_plan A [] make h = tt
 is_plan A (number [] ∷ xs) make h = absurd h.0
-is_plan A (number (range ∷ ranges) ∷ xs) make h =
-    (word_means (range ∷ ranges) (least xs) (λ x. plain (plan_of xs (make x))) h.0 (λ x. least_plan xs (make x) h.1),
-    λ x fits. is_plan A xs (make x) h.1)
-is_plan A (blob max ∷ xs) make h =
-    (opaque_means max (least xs) (λ x. plain (plan_of xs (make x))) h.0 (λ x le. least_plan xs (make x) h.1),
-    λ x fits. is_plan A xs (make x) h.1)
-is_plan A (exactly size ∷ xs) make h =
-    (λ bytes why fits. fixed_means size (least xs) (λ x. plain (plan_of xs (make x)))
-    (λ x. least_plan xs (make x) h.1) bytes why, λ x fits. is_plan A xs (make x) h.1)
-is_plan A (maybe max ∷ xs) make h =
-    (bool_means (least xs) (λ b. plain (arm max xs make b)) (least_plan xs (make None) h.1)
-        (arm_least max xs make (λ m. least_plan xs m h.1)),
-        λ b fits. arm_plan max xs make h.0 (λ m. least_plan xs m h.1) (λ m. is_plan A xs m h.1) b)
+is_plan A (number (range ∷ ranges) ∷ xs) make h = (
+  word_means (range ∷ ranges) (least xs) (λ x. plain (plan_of xs (make x))) h.0 (λ x. least_plan xs (make x) h.1),
+  λ x fits. is_plan A xs (make x) h.1,
+)
+is_plan A (blob max ∷ xs) make h = (
+  opaque_means max (least xs) (λ x. plain (plan_of xs (make x))) h.0 (λ x le. least_plan xs (make x) h.1),
+  λ x fits. is_plan A xs (make x) h.1,
+)
+is_plan A (exactly size ∷ xs) make h = (
+  λ bytes why fits. fixed_means size (least xs) (λ x. plain (plan_of xs (make x)))
+      (λ x. least_plan xs (make x) h.1) bytes why,
+  λ x fits. is_plan A xs (make x) h.1,
+)
+is_plan A (maybe max ∷ xs) make h = (
+  bool_means (least xs) (λ b. plain (arm max xs make b)) (least_plan xs (make None) h.1)
+      (arm_least max xs make (λ m. least_plan xs m h.1)),
+  λ b fits. arm_plan max xs make h.0 (λ m. least_plan xs m h.1) (λ m. is_plan A xs m h.1) b,
+)

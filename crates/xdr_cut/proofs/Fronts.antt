@@ -45,9 +45,9 @@ pub front_again : {A : Type 0} (g : Grammar A) (value : A) (text more : List ℕ
 unfolding front_at
 front_again g value text more fits s =
     let read = ap (λ (t : List ℕ). reads g (start t)) (low_more text more fits)
-        ∙ reads_again g value text (low more) 0 s in
+    ∙ reads_again g value text (low more) 0 s in
     ap (value_and_rest (text ++ more)) read ∙ ap (λ (t : List ℕ). Some (value, t))
-        (drop_at text more (0 + length text) (sym (zero_plus (length text))))
+    (drop_at text more (0 + length text) (sym (zero_plus (length text))))
 
 none_if : {A : Type 0} (g : Grammar A) (bytes : List ℕ) (r : Result (A × Cursor) Stop) →
     reads g (start (low bytes)) ≡ r → ((value : A) (n : ℕ) → Begins g (low bytes) value n → ⊥) →
@@ -85,10 +85,19 @@ pub front_short : {A : Type 0} (g : Grammar A) (front piece : List ℕ) (need : 
     IsShort g front need → length (front ++ piece) < need → front_at g (front ++ piece) ≡ None
 front_short g front piece need fits h lt = front_if g (front ++ piece) (λ value n b.
     let c : Begins g (front ++ low piece) value n = subst (λ (t : List ℕ). Begins g t value n)
-        (low_more front piece fits) b in
+    (low_more front piece fits) b in
     let least = not_before g front (low piece) need value n h c in
-    omega (arith, least, lt, ap length c.3, length-append c.0 c.1, c.4, length-append front piece,
-        length-append front (low piece), length_low piece))
+    omega (
+      arith,
+      least,
+      lt,
+      ap length c.3,
+      length-append c.0 c.1,
+      c.4,
+      length-append front piece,
+      length-append front (low piece),
+      length_low piece,
+    ))
 
 -- a value that is found at the front is spelled there
 pub record Spelled {A : Type 0} (g : Grammar A) (bytes rest : List ℕ) (value : A) : Type 0 where
@@ -107,8 +116,15 @@ found_if {A = A} g bytes rest value (Ok x) e is =
     record {
       text = f.text;
       spells = subst (λ v. Spells g v f.text) (ap (λ p. p.0) same) f.spells;
-      len = omega (arith, f.place, ap length f.parts, length-append f.text x.1.rest, length_low bytes, ap length behind,
-          length-drop x.1.at bytes);
+      len = omega (
+        arith,
+        f.place,
+        ap length f.parts,
+        length-append f.text x.1.rest,
+        length_low bytes,
+        ap length behind,
+        length-drop x.1.at bytes,
+      );
     }
 found_if g bytes rest value (Err stop) e is = absurd cc
 

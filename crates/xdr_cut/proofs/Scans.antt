@@ -79,12 +79,18 @@ pub not_short : {A : Type 0} (g : Grammar A) (bytes : List ℕ) (value : A) (n n
     IsShort g bytes need → ⊥
 not_short g bytes value n need s h =
     let e : bytes ++ h.attained.1 ≡ s.0 ++ (s.1 ++ h.attained.1) = ap (λ (z : List ℕ). z ++ h.attained.1) s.3
-        ∙ append_assoc s.0 s.1 h.attained.1 in
+    ∙ append_assoc s.0 s.1 h.attained.1 in
     let t : Spells g h.attained.0 (s.0 ++ (s.1 ++ h.attained.1)) = subst
-        (λ (z : List ℕ). Spells g h.attained.0 z) e h.attained.2 in
+    (λ (z : List ℕ). Spells g h.attained.0 z) e h.attained.2 in
     let none = (no_prefix g value h.attained.0 s.0 (s.1 ++ h.attained.1) s.2 t).0 in
-    omega (arith, h.proper, h.attained.3, length-append bytes h.attained.1, ap length none,
-        length-append s.1 h.attained.1)
+    omega (
+      arith,
+      h.proper,
+      h.attained.3,
+      length-append bytes h.attained.1,
+      ap length none,
+      length-append s.1 h.attained.1,
+    )
 
 abbrev err : {X : Type 0} → ScanErr → Result X ScanErr
 err e = Err e
@@ -148,7 +154,7 @@ is_scan view p bytes (Err errors.NoMemory) h fits s =
 pub overlap : (a b c d : List ℕ) → a ++ b ≡ c ++ d → length c ≤ length a → a ≡ c ++ drop (length c) a
 overlap a b c d e le =
     let same : take (length c) a ≡ c = sym (take-append-le (length c) a b le) ∙ ap (take (length c)) e
-        ∙ take_at c d (length c) refl in
+    ∙ take_at c d (length c) refl in
     sym (take-append-drop (length c) a) ∙ ap (λ (t : List ℕ). t ++ drop (length c) a) same
 
 -- behind a short front no value ends before the need

@@ -12,10 +12,12 @@ returns-then-count-eq0-clause-bytes g c = fills_short _ _ _ _ _ _ _ c.loop-fille
     (grind (arith, common_steps)) c.if-count-eq0.true c.in-Ok.ensures.bytes
 
 pub loop-filled-preserved : goal.loop-filled-preserved
-loop-filled-preserved g c =
-    (filling_more _ _ _ _ _ _ _ c.loop-filled.invariant.0
-    (grind (arith, common_steps)) c.in-Ok.ensures.bound.0 c.in-Ok.ensures.bytes.0, omega (arith, c.in-Ok.ensures.cause),
-    λ i. omega (arith, c.type_inv.buf i))
+loop-filled-preserved g c = (
+  filling_more _ _ _ _ _ _ _ c.loop-filled.invariant.0
+      (grind (arith, common_steps)) c.in-Ok.ensures.bound.0 c.in-Ok.ensures.bytes.0,
+  omega (arith, c.in-Ok.ensures.cause),
+  λ i. omega (arith, c.type_inv.buf i),
+)
 
 pub returns-clause-bytes : goal.returns-clause-bytes
 returns-clause-bytes g c = fills_all _ _ _ _ _ c.loop-filled.invariant.0 c.loop-filled-test.false

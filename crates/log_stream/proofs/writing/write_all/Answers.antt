@@ -6,8 +6,8 @@ use Rattle.log_stream.proofs.writing.write_all.Goals as goal
 pub returns-in_err-count-clause-bytes : goal.returns-in_err-count-clause-bytes
 returns-in_err-count-clause-bytes g c =
     writes_exit _ c.from_residual.ensures.1
-        (writes_failed {T = Unit {0}}
-        (g.O.Sink.written c.loop-done.out) c.loop-done.done c.loop-done.invariant.appended c.in_err-count.ensures.bytes)
+    (writes_failed {T = Unit {0}}
+    (g.O.Sink.written c.loop-done.out) c.loop-done.done c.loop-done.invariant.appended c.in_err-count.ensures.bytes)
 
 pub returns-then-count-eq0-clause-bytes : goal.returns-then-count-eq0-clause-bytes
 returns-then-count-eq0-clause-bytes g c =

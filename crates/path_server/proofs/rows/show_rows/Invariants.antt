@@ -6,5 +6,5 @@ abbrev pub invariant-loop-k : goal.invariant-loop-k
 invariant-loop-k l =
     (vec_len l.rows ≡ vec_len l.initial.rows)
     × ((j : ℕ) → j < l.k → slice_get l.rows.items j ≡ option_map (shown_row l.starts)
-        (slice_get l.initial.rows.items j))
+    (slice_get l.initial.rows.items j))
     × ((j : ℕ) → l.k ≤ j → slice_get l.rows.items j ≡ slice_get l.initial.rows.items j)

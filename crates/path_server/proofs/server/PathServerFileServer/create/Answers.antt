@@ -12,9 +12,9 @@ returns-in-Ok c =
     let s = c.args.self.now in
     make_ok_told (shown_at s.starts) (shown_twice s.starts) (state_of s.tree) (state_of c.create.new.self)
     c.shown-dir.result c.args.dir.now c.shown-dir.ensures c.args.name.now
-        (BytesOf []) 0 c.in-Ok.node c.shown.result c.shown.ensures
+    (BytesOf []) 0 c.in-Ok.node c.shown.result c.shown.ensures
     (subst (λ r. Create (state_of s.tree) c.shown-dir.result c.args.name.now r
-        (state_of c.create.new.self)) c.in-Ok.is c.create.ensures)
+    (state_of c.create.new.self)) c.in-Ok.is c.create.ensures)
 
 pub returns-in-Err : goal.returns-in-Err
 returns-in-Err c =
@@ -22,4 +22,4 @@ returns-in-Err c =
     make_err_told (shown_at s.starts) (shown_twice s.starts) (state_of s.tree) (state_of c.create.new.self)
     c.shown-dir.result c.args.dir.now c.shown-dir.ensures c.args.name.now (BytesOf []) 0 c.in-Err.e
     (subst (λ r. Create (state_of s.tree) c.shown-dir.result c.args.name.now r
-        (state_of c.create.new.self)) c.in-Err.is c.create.ensures)
+    (state_of c.create.new.self)) c.in-Err.is c.create.ensures)

@@ -19,4 +19,4 @@ returns-in-Err c =
     list_err_told (shown_at s.starts) (shown_twice s.starts) (state_of s.tree) (state_of c.list.new.self)
     c.shown-dir.result c.args.dir.now c.shown-dir.ensures c.in-Err.e
     (subst (λ r. ListNames (state_of s.tree) c.shown-dir.result r
-        (state_of c.list.new.self)) c.in-Err.is c.list.ensures)
+    (state_of c.list.new.self)) c.in-Err.is c.list.ensures)

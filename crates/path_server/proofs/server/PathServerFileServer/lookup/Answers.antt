@@ -12,7 +12,7 @@ returns-in-Ok c =
     lookup_ok_told (shown_at s.starts) (shown_twice s.starts) (state_of s.tree) (state_of c.lookup.new.self)
     c.shown-dir.result c.args.dir.now c.shown-dir.ensures c.args.name.now c.in-Ok.node c.shown.result c.shown.ensures
     (subst (λ r. Lookup (state_of s.tree) c.shown-dir.result c.args.name.now r
-        (state_of c.lookup.new.self)) c.in-Ok.is c.lookup.ensures)
+    (state_of c.lookup.new.self)) c.in-Ok.is c.lookup.ensures)
 
 pub returns-in-Err : goal.returns-in-Err
 returns-in-Err c =
@@ -20,4 +20,4 @@ returns-in-Err c =
     lookup_err_told (shown_at s.starts) (shown_twice s.starts) (state_of s.tree) (state_of c.lookup.new.self)
     c.shown-dir.result c.args.dir.now c.shown-dir.ensures c.args.name.now c.in-Err.e
     (subst (λ r. Lookup (state_of s.tree) c.shown-dir.result c.args.name.now r
-        (state_of c.lookup.new.self)) c.in-Err.is c.lookup.ensures)
+    (state_of c.lookup.new.self)) c.in-Err.is c.lookup.ensures)

@@ -12,7 +12,7 @@ returns-in-Ok c =
     mkdir_ok_told (shown_at s.starts) (shown_twice s.starts) (state_of s.tree) (state_of c.mkdir.new.self)
     c.shown-dir.result c.args.dir.now c.shown-dir.ensures c.args.name.now c.in-Ok.node c.shown.result c.shown.ensures
     (subst (λ r. Mkdir (state_of s.tree) c.shown-dir.result c.args.name.now r
-        (state_of c.mkdir.new.self)) c.in-Ok.is c.mkdir.ensures)
+    (state_of c.mkdir.new.self)) c.in-Ok.is c.mkdir.ensures)
 
 pub returns-in-Err : goal.returns-in-Err
 returns-in-Err c =
@@ -20,4 +20,4 @@ returns-in-Err c =
     mkdir_err_told (shown_at s.starts) (shown_twice s.starts) (state_of s.tree) (state_of c.mkdir.new.self)
     c.shown-dir.result c.args.dir.now c.shown-dir.ensures c.args.name.now c.in-Err.e
     (subst (λ r. Mkdir (state_of s.tree) c.shown-dir.result c.args.name.now r
-        (state_of c.mkdir.new.self)) c.in-Err.is c.mkdir.ensures)
+    (state_of c.mkdir.new.self)) c.in-Err.is c.mkdir.ensures)

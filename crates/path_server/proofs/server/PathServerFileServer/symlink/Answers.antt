@@ -12,15 +12,15 @@ returns-in-Ok c =
     let s = c.args.self.now in
     make_ok_told (shown_at s.starts) (shown_twice s.starts) (state_of s.tree) (state_of c.symlink.new.self)
     c.shown-dir.result c.args.dir.now c.shown-dir.ensures c.args.name.now (TextOf c.args.text.now)
-        (length c.args.text.now) c.in-Ok.node c.shown.result c.shown.ensures
+    (length c.args.text.now) c.in-Ok.node c.shown.result c.shown.ensures
     (subst (λ r. Symlink (state_of s.tree) c.shown-dir.result c.args.name.now c.args.text.now r
-        (state_of c.symlink.new.self)) c.in-Ok.is c.symlink.ensures)
+    (state_of c.symlink.new.self)) c.in-Ok.is c.symlink.ensures)
 
 pub returns-in-Err : goal.returns-in-Err
 returns-in-Err c =
     let s = c.args.self.now in
     make_err_told (shown_at s.starts) (shown_twice s.starts) (state_of s.tree) (state_of c.symlink.new.self)
     c.shown-dir.result c.args.dir.now c.shown-dir.ensures c.args.name.now (TextOf c.args.text.now)
-        (length c.args.text.now) c.in-Err.e
+    (length c.args.text.now) c.in-Err.e
     (subst (λ r. Symlink (state_of s.tree) c.shown-dir.result c.args.name.now c.args.text.now r
-        (state_of c.symlink.new.self)) c.in-Err.is c.symlink.ensures)
+    (state_of c.symlink.new.self)) c.in-Err.is c.symlink.ensures)

@@ -72,7 +72,7 @@ invariant_of-self-2 c =
           c.handle_of-handle.result (from_entries c.insert-2.new.self.entries) c.add_new.new.names.names
           c.handle_of-handle.ensures put
           c.in_ok-add_new.ensures.added.names s.names c.add_new.new.names
-              (s.stored c.requires.held) c.in_ok-add_new.ensures.added;
+          (s.stored c.requires.held) c.in_ok-add_new.ensures.added;
     }
 
 pub returns-clause-ok : goal.returns-clause-ok
@@ -85,7 +85,7 @@ returns-clause-ok c =
     (subst (λ (h : List ℕ). IsAdded c.args.kind h c.args.bytes.now s.contents c.add.new.self)
     c.handle_of-handle.ensures c.in_ok-add.ensures)
     c.handle_of-handle.result
-        (from_entries c.insert-2.new.self.entries) c.add_new.new.names.names c.handle_of-handle.ensures
+    (from_entries c.insert-2.new.self.entries) c.add_new.new.names.names c.handle_of-handle.ensures
     (insert-two s.nodes.entries c.insert.new.self.entries c.insert-2.new.self.entries c.handle_of-handle.result
     c.args.dir.now c.new-node.result (made_node c.args.kind s.next 1) c.with_name.result (one_more c.args.kind
     c.args.kept)

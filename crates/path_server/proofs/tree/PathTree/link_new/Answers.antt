@@ -15,6 +15,6 @@ returns-then-self c = let s = c.args.self.now in
 pub returns-in-Ok : goal.returns-in-Ok
 returns-in-Ok c = let s = c.args.self.now in
     link-ok s.held s.limits s.next s.bytes
-        (kept_by s) s.sound c.args.dir.now c.args.name.now c.args.node.now c.args.kept
+    (kept_by s) s.sound c.args.dir.now c.args.name.now c.args.node.now c.args.kept
     c.args.within _ c.add_name.new.self.limits c.requires.node c.requires.dir c.requires.new_name c.in-Ok.ensures.limits
     c.in-Ok.ensures.ok

@@ -15,7 +15,7 @@ not_both p q = let bad : true ≡ false = sym p ∙ q in cc
 pub unreachable-requires : goal.unreachable-requires
 unreachable-requires c = let s = c.args.self.now in
     is_some_none ((s.sound c.requires.held).named
-        (c.args.from.now ++ c.args.name.now) c.args.moved.now c.requires.leads).1
+    (c.args.from.now ++ c.args.name.now) c.args.moved.now c.requires.leads).1
     (get-rows s.nodes.entries c.args.moved.now ∙ sym c.get.ensures.value ∙ sym c.copied.ensures ∙ c.in_default.is)
 
 pub moves_below-requires-clause-moved : goal.moves_below-requires-clause-moved
@@ -48,7 +48,7 @@ returns-in-Ok c =
     rename-ok s.held s.limits s.next s.bytes (kept_by s) s.sound c.args.from.now c.args.name.now c.args.to.now
     c.args.to_name.now c.args.within c.requires.from c.args.moved.now c.requires.leads c.in-Some.node (get-rows
     s.nodes.entries c.args.moved.now ∙ sym c.get.ensures.value ∙ sym c.copied.ensures ∙ c.in-Some.is) into.0
-        (into.1, into.2)
+    (into.1, into.2)
     c.requires.new_name
     (λ is_dir below. not_both (c.moves_below.ensures.1 (is_dir, below)) c.if-moves_below.false)
     _ c.move_name.new.self.limits c.in-Ok.ensures.limits c.in-Ok.ensures.ok

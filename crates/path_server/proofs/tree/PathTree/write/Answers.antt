@@ -32,7 +32,7 @@ returns-then-self-len c =
     let over = c.if-self-len.true in
     let same = ap length c.get-len.ensures in
     let size = c.max-size.ensures ∙ ord_max_is (length c.get-len.result.now)
-        (c.args.offset + length c.args.piece.now) in
+    (c.args.offset + length c.args.piece.now) in
     write-full s.held s.limits s.next s.bytes (kept_by s) s.sound c.args.file.now c.in_ok-find.field-0
     c.in_ok-find.ensures c.args.offset c.args.piece.now (omega (arith, over, same, size))
 
@@ -49,7 +49,7 @@ returns-in-Ok c =
     let s = c.args.self.now in
     let same = ap length c.get-len.ensures in
     let size = c.max-size.ensures ∙ ord_max_is (length c.get-len.result.now)
-        (c.args.offset + length c.args.piece.now) in
+    (c.args.offset + length c.args.piece.now) in
     write-ok s.held s.limits s.next s.bytes (kept_by s) s.sound c.args.file.now c.in_ok-find.field-0
     c.in_ok-find.ensures _ c.change.new.self.limits c.in-Ok.ensures.limits
     c.max-size.result c.args.offset c.args.piece.now (omega (arith, same, size)) c.requires.some c.in-Ok.ensures.ok
