@@ -46,12 +46,12 @@ module _ (limits : Limits) (kept : Kept) (server server' : Server) (table table'
   text_is = ap text_of s.lines_said
 
   -- the replica was started, and its lines were written
-  pub begun : (left held held' : Option (List ℕ)) (x : Unit {0}) → Writes {E = RunErr} held held' (text_of lines) (Ok x)
-      → Going limits (all_records limits) (snapshot left held server table downs) (snapshot left held' server' table' downs') kept 16777216 24 × (kept.events ≡ 0)
-  begun left held held' x w = (
+  pub begun : (servers : ℕ) (left held held' : Option (List ℕ)) (x : Unit {0}) → Writes {E = RunErr} held held' (text_of lines) (Ok x)
+      → Going limits servers (all_records limits servers) (snapshot left held server table downs) (snapshot left held' server' table' downs') kept 16777216 24 × (kept.events ≡ 0)
+  begun servers left held held' x w = (
     record {
       events = [];
-      goes = subst (λ (q : List Request). Goes left left (all_records limits) (records_from 16777216 limits.k q 24) []) (sym s.requests) (Goes-none left (all_records limits));
+      goes = subst (λ (q : List Request). Goes left left (all_records limits servers) (records_from 16777216 limits.f servers limits.k q 24) []) (sym s.requests) (Goes-none left (all_records limits servers));
       printed = appended_all held [] (Appends-none held) w text_is;
       here = here;
     },
@@ -59,11 +59,11 @@ module _ (limits : Limits) (kept : Kept) (server server' : Server) (table table'
   )
 
   -- a write failed
-  pub begun_failed : (left held held' : Option (List ℕ)) (f : RunErr) → limits.f ≡ 0 → Writes {T = Unit} held held' (text_of lines) (Err f)
-      → Ran limits (all_records limits) (snapshot left held server table downs) (snapshot left held' server' table' downs') (run_status f)
-  begun_failed left held held' f one w =
-      let none = Goes-none left (all_records limits) in
-      ran_here one here (ends_at_write f none) (λ e. unread_at_write none (nothing_more 16777216 limits.k [] 24)) (printed_part [] (Appends-none held) w text_is) (cut_start limits downs' _)
+  pub begun_failed : (servers : ℕ) (left held held' : Option (List ℕ)) (f : RunErr) → limits.f ≡ 0 → Writes {T = Unit} held held' (text_of lines) (Err f)
+      → Ran limits (all_records limits servers) (snapshot left held server table downs) (snapshot left held' server' table' downs') (run_status f)
+  begun_failed servers left held held' f one w =
+      let none = Goes-none left (all_records limits servers) in
+      ran_here one here (ends_at_write f none) (λ e. unread_at_write none (nothing_more 16777216 limits.f servers limits.k [] 24)) (printed_part [] (Appends-none held) w text_is) (cut_start limits downs' _)
 
 -- THE TURNS OF A RUN
 
@@ -71,23 +71,23 @@ less : (most i : ℕ) → i < most → most - i ≡ suc (most - (i + 1))
 less most i lt = omega arith
 
 -- one turn more
-pub turned : {limits : Limits} {log : List ℕ → Log} {old mid new : Snapshot} {kept kept' : Kept} {place next : ℕ} (most i : ℕ) → i < most → limits.f ≡ 0
-    → Going limits log old mid kept (most - i) place → Turns mid new kept kept' place (turns.Goes next) → Going limits log old new kept' (most - (i + 1)) next
-turned {limits = limits} {log = log} {old = old} {mid = mid} {kept = kept} {place = place} most i lt one g t =
-    t limits log old (most - (i + 1)) one (subst (λ (n : ℕ). Going limits log old mid kept n place) (less most i lt) g)
+pub turned : {limits : Limits} {servers : ℕ} {log : List ℕ → Log} {old mid new : Snapshot} {kept kept' : Kept} {place next : ℕ} (most i : ℕ) → i < most → limits.f ≡ 0
+    → Going limits servers log old mid kept (most - i) place → Turns servers mid new kept kept' place (turns.Goes next) → Going limits servers log old new kept' (most - (i + 1)) next
+turned {limits = limits} {servers = servers} {log = log} {old = old} {mid = mid} {kept = kept} {place = place} most i lt one g t =
+    t limits log old (most - (i + 1)) one (subst (λ (n : ℕ). Going limits servers log old mid kept n place) (less most i lt) g)
 
 -- the last turn
-pub turned_over : {limits : Limits} {log : List ℕ → Log} {old mid new : Snapshot} {kept : Kept} {place : ℕ} {s : Status} (kept' : Kept) (most i : ℕ) → i < most → limits.f ≡ 0
-    → Going limits log old mid kept (most - i) place → Turns mid new kept kept' place (turns.Over s) → Ran limits log old new s
-turned_over {limits = limits} {log = log} {old = old} {mid = mid} {kept = kept} {place = place} kept' most i lt one g t =
-    t limits log old (most - (i + 1)) one (subst (λ (n : ℕ). Going limits log old mid kept n place) (less most i lt) g)
+pub turned_over : {limits : Limits} {servers : ℕ} {log : List ℕ → Log} {old mid new : Snapshot} {kept : Kept} {place : ℕ} {s : Status} (kept' : Kept) (most i : ℕ) → i < most → limits.f ≡ 0
+    → Going limits servers log old mid kept (most - i) place → Turns servers mid new kept kept' place (turns.Over s) → Ran limits log old new s
+turned_over {limits = limits} {servers = servers} {log = log} {old = old} {mid = mid} {kept = kept} {place = place} kept' most i lt one g t =
+    t limits log old (most - (i + 1)) one (subst (λ (n : ℕ). Going limits servers log old mid kept n place) (less most i lt) g)
 
 -- no more turns are taken
-pub turned_most : {limits : Limits} {log : List ℕ → Log} {old : Snapshot} {left held : Option (List ℕ)} {server : Server} {table : ConfTable} {downs : List FaultPoint} {kept : Kept} {place : ℕ} (most i : ℕ) → most ≤ i → limits.f ≡ 0
-    → Going limits log old (snapshot left held server table downs) kept (most - i) place → Ran limits log old (snapshot left held server table downs) (status.BadLog place)
-turned_most {limits = limits} {log = log} {old = old} {left = left} {held = held} {server = server} {table = table} {downs = downs} {kept = kept} {place = place} most i le one g =
+pub turned_most : {limits : Limits} {servers : ℕ} {log : List ℕ → Log} {old : Snapshot} {left held : Option (List ℕ)} {server : Server} {table : ConfTable} {downs : List FaultPoint} {kept : Kept} {place : ℕ} (most i : ℕ) → most ≤ i → limits.f ≡ 0
+    → Going limits servers log old (snapshot left held server table downs) kept (most - i) place → Ran limits log old (snapshot left held server table downs) (status.BadLog place)
+turned_most {limits = limits} {servers = servers} {log = log} {old = old} {left = left} {held = held} {server = server} {table = table} {downs = downs} {kept = kept} {place = place} most i le one g =
     let none : most - i ≡ 0 = omega arith in
-    stops_most one (subst (λ (n : ℕ). Going limits log old (snapshot left held server table downs) kept n place) none g)
+    stops_most one (subst (λ (n : ℕ). Going limits servers log old (snapshot left held server table downs) kept n place) none g)
 
 -- the server has room as before
 pub has_room : (limits limits' : Limits) (most most' : ServerLimits) → limits' ≡ limits → most' ≡ most → HasRoom limits most → HasRoom limits' most'

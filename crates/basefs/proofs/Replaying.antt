@@ -53,7 +53,7 @@ module _ {X : Type 0} (most : X → ServerLimits) (servers : List X) where
   unfolding log_of
   header_waits bytes rest h e f = rw (e, f, log_of) refl
 
-  header_goes : (bytes rest : List ℕ) (h : Header) → header_at bytes ≡ Some (h, rest) → (h.f == 0) ≡ true → log_of most servers bytes ≡ by_bench most h servers (all_records (limits_of h) rest)
+  header_goes : (bytes rest : List ℕ) (h : Header) → header_at bytes ≡ Some (h, rest) → (h.f == 0) ≡ true → log_of most servers bytes ≡ by_bench most h servers (all_records (limits_of h) (length servers) rest)
   unfolding log_of
   header_goes bytes rest h e f = rw (e, f, log_of) refl
 
@@ -99,7 +99,7 @@ module _ {X : Type 0} (most : X → ServerLimits) (servers : List X) where
     ends = record {
       taken = r.taken;
       consumed = r.consumed;
-      says = HoldsOf-always (log_of most servers) r.taken left (λ l. l ≡ record { events = []; stop = too_few have need }) (λ more. header_goes (r.taken ++ more) more h (r.outcome more) f ∙ all (all_records (limits_of h) more));
+      says = HoldsOf-always (log_of most servers) r.taken left (λ l. l ≡ record { events = []; stop = too_few have need }) (λ more. header_goes (r.taken ++ more) more h (r.outcome more) f ∙ all (all_records (limits_of h) (length servers) more));
     };
     early = tt;
   }
@@ -107,7 +107,7 @@ module _ {X : Type 0} (most : X → ServerLimits) (servers : List X) where
     ends = record {
       taken = r.taken;
       consumed = r.consumed;
-      says = HoldsOf-always (log_of most servers) r.taken left (λ l. l ≡ record { events = []; stop = too_small server }) (λ more. header_goes (r.taken ++ more) more h (r.outcome more) f ∙ all (all_records (limits_of h) more));
+      says = HoldsOf-always (log_of most servers) r.taken left (λ l. l ≡ record { events = []; stop = too_small server }) (λ more. header_goes (r.taken ++ more) more h (r.outcome more) f ∙ all (all_records (limits_of h) (length servers) more));
     };
     early = tt;
   }
@@ -118,12 +118,12 @@ module _ {X : Type 0} (most : X → ServerLimits) (servers : List X) where
   pub stopped_bench : (old left : Option (List ℕ)) (h : Header) (s : Status) → Reads header_at (λ (x : Header). x) old left (Ok h) → (h.f == 0) ≡ true → Refuses most h servers (Some s) → Stopped old left (log_of most servers) s
   stopped_bench old left h s r f w = subst (Stopped old left (log_of most servers)) (sym w.1) (stopped_by old left h w.0 r f w.2 w.3)
 
-  header_read : (old left : Option (List ℕ)) (h : Header) → Reads header_at (λ (x : Header). x) old left (Ok h) → (h.f == 0) ≡ true → Refuses most h servers None → Goes old left (log_of most servers) (all_records (limits_of h)) []
-  header_read old left h r f w = record { taken = r.taken; consumed = r.consumed; goes = λ more. header_goes (r.taken ++ more) more h (r.outcome more) f ∙ w.2 (all_records (limits_of h) more) }
+  header_read : (old left : Option (List ℕ)) (h : Header) → Reads header_at (λ (x : Header). x) old left (Ok h) → (h.f == 0) ≡ true → Refuses most h servers None → Goes old left (log_of most servers) (all_records (limits_of h) (length servers)) []
+  header_read old left h r f w = record { taken = r.taken; consumed = r.consumed; goes = λ more. header_goes (r.taken ++ more) more h (r.outcome more) f ∙ w.2 (all_records (limits_of h) (length servers) more) }
 
   -- a run of the records is one of the log
   pub ran_whole : (old left held : Option (List ℕ)) (server : Server) (table : ConfTable) (downs : List FaultPoint) (new : Snapshot) (h : Header) (s : Status) (r : Reads header_at (λ (x : Header). x) old left (Ok h)) → (h.f == 0) ≡ true → Refuses most h servers None
-      → Ran (limits_of h) (all_records (limits_of h)) (snapshot left held server table downs) new s
+      → Ran (limits_of h) (all_records (limits_of h) (length servers)) (snapshot left held server table downs) new s
       → (ran : Ran (limits_of h) (log_of most servers) (snapshot old held server table []) new s) × (behind : List ℕ) × (header_at ran.ends.taken ≡ Some (h, behind))
   unfolding Ends-then header_read
   ran_whole old left held server table downs new h s r f w p =
@@ -168,7 +168,7 @@ replayed_unprepared state left left' held servers servers' tables tables' downs 
 pub replayed_run : {X : Type 0} (state : X → Server) (old left left' held held' : Option (List ℕ)) (servers mid : List X) (tables before : List ConfTable) (downs downs' earlier : List FaultPoint) (h : Header) (s : Status) (x v : X) (t w : ConfTable)
     → mid ≡ servers → 1 ≤ length tables → x ≡ get_or mid 0 x → t ≡ get_or tables 0 t
     → Reads header_at (λ (y : Header). y) old left (Ok h) → (h.f == 0) ≡ true → Refuses (λ y. (state y).limits) h servers None
-    → RunsAll (limits_of h) (snapshot left held (state x) t downs) (snapshot left' held' (state v) w downs') s
+    → RunsAll (limits_of h) (length servers) (snapshot left held (state x) t downs) (snapshot left' held' (state v) w downs') s
     → Replayed state (setting old held servers before earlier) (setting left' held' (slice_set mid 0 v) (slice_set tables 0 w) downs') s
 replayed_run {X} state old left left' held held' servers mid tables before downs downs' earlier h s x v t w same some is_x is_t r f none run =
     record { came = by run; others = subst (λ (xs : List X). ChangesAt 0 xs (slice_set mid 0 v)) same (changes_set mid 0 v) }
@@ -179,7 +179,7 @@ replayed_run {X} state old left left' held held' servers mid tables before downs
     at_t : slice_get tables 0 ≡ Some t
     at_t = read_at tables t some is_t
 
-    by : RunsAll (limits_of h) (snapshot left held (state x) t downs) (snapshot left' held' (state v) w downs') s
+    by : RunsAll (limits_of h) (length servers) (snapshot left held (state x) t downs) (snapshot left' held' (state v) w downs') s
         → let before = setting old held servers before earlier in let now = setting left' held' (slice_set mid 0 v) (slice_set tables 0 w) downs' in
         Early state before now s ⊎ Started state before now s
     by (inl p) =

@@ -6,8 +6,11 @@ use Rattle.server_trait.specs.Tree.{Server}
 use Rattle.server_trait.specs.declared.ConfTable.{ConfTable}
 use Rattle.server_trait.specs.declared.FaultPoint.{FaultPoint}
 use Rattle.log_format.specs.declared.Event.{Event}
-use Rattle.log_format.specs.Items.{piece_at, word_at}
-use Rattle.log_format.specs.Records.{record_at, record_len}
+use Rattle.xdr_core.specs.Items.{item_in}
+use Rattle.xdr_core.specs.Grammar.{item_at}
+use Rattle.xdr_cut.specs.Cut.{front_at}
+use Rattle.log_format.specs.Records.{event_plan, record_at}
+use Rattle.log_format.specs.Spelling.{record_len}
 use Rattle.log_stream.specs.declared.ReadErr.{ReadErr}
 use Rattle.log_stream.specs.declared.ReadErr.TheVariants as read
 use Rattle.log_stream.specs.Reading.{Reads}
@@ -31,14 +34,14 @@ use Rattle.basefs.proofs.Stepped.{here_more, text_more, ran_here, ran_short, cut
 
 -- A WRITE THAT FAILS
 
-none_left : record_at [] ≡ None
-unfolding record_at word_at piece_at
-none_left = refl
+none_left : (f servers : ℕ) → record_at f servers [] ≡ None
+unfolding front_at event_plan item_at item_in
+none_left f servers = refl
 
 -- no bytes are no records
-pub nothing_more : (n k : ℕ) (q : List Request) (place : ℕ) → (records_from n k q place []).events ≡ []
-nothing_more zero k q place = ap (λ (l : Log). l.events) (records_zero k q place [])
-nothing_more (suc n) k q place = ap (λ (l : Log). l.events) (records_none n k q place [] none_left)
+pub nothing_more : (n f servers k : ℕ) (q : List Request) (place : ℕ) → (records_from n f servers k q place []).events ≡ []
+nothing_more zero f servers k q place = ap (λ (l : Log). l.events) (records_zero f servers k q place [])
+nothing_more (suc n) f servers k q place = ap (λ (l : Log). l.events) (records_none n f servers k q place [] (none_left f servers))
 
 module _ {old left : Option (List ℕ)} {log rest : List ℕ → Log} {events : List Event} where
   front_of : (p : Goes old left log rest events) → HoldsOf log p.taken left (λ l. IsPrefix events l.events)
@@ -69,43 +72,47 @@ finish_no_write {left = left} {place = place} p e = subst (λ (s : Status). Fini
 -- WHERE A RUN STOPS
 
 -- the run stops, and nothing was stepped
-pub stops_here : {limits : Limits} {log : List ℕ → Log} {old : Snapshot} {left left' held : Option (List ℕ)} {server : Server} {table : ConfTable} {downs : List FaultPoint} {kept : Kept} {n place : ℕ} {s : Status} →
-    limits.f ≡ 0 → Going limits log old (snapshot left held server table downs) kept n place → (s ≡ status.WriteFault → ⊥) → Ends left left' (records_from n limits.k kept.requests place) s [] → Ran limits log old (snapshot left' held server table downs) s
+pub stops_here : {limits : Limits} {servers : ℕ} {log : List ℕ → Log} {old : Snapshot} {left left' held : Option (List ℕ)} {server : Server} {table : ConfTable} {downs : List FaultPoint} {kept : Kept} {n place : ℕ} {s : Status} →
+    limits.f ≡ 0 → Going limits servers log old (snapshot left held server table downs) kept n place → (s ≡ status.WriteFault → ⊥) → Ends left left' (records_from n limits.f servers limits.k kept.requests place) s [] → Ran limits log old (snapshot left' held server table downs) s
 stops_here {limits = limits} {log = log} {old = old} {left' = left'} {downs = downs} {s = s} one g differs ends =
     ran_here one g.here (subst (Ends old.left left' log s) (append-nil g.events) (Ends-then g.goes ends)) (λ e. absurd (differs e)) (printed_all s g.printed) (cut_whole limits downs g.events)
 
 -- no more records are read
-pub stops_most : {limits : Limits} {log : List ℕ → Log} {old : Snapshot} {left held : Option (List ℕ)} {server : Server} {table : ConfTable} {downs : List FaultPoint} {kept : Kept} {place : ℕ} →
-    limits.f ≡ 0 → Going limits log old (snapshot left held server table downs) kept 0 place → Ran limits log old (snapshot left held server table downs) (status.BadLog place)
-stops_most {limits = limits} {left = left} {kept = kept} {place = place} one g = stops_here one g (λ e. let f : status.BadLog place ≡ status.WriteFault = e in cc) (over_most left limits.k kept.requests place)
+pub stops_most : {limits : Limits} {servers : ℕ} {log : List ℕ → Log} {old : Snapshot} {left held : Option (List ℕ)} {server : Server} {table : ConfTable} {downs : List FaultPoint} {kept : Kept} {place : ℕ} →
+    limits.f ≡ 0 → Going limits servers log old (snapshot left held server table downs) kept 0 place → Ran limits log old (snapshot left held server table downs) (status.BadLog place)
+stops_most {limits = limits} {servers = servers} {left = left} {kept = kept} {place = place} one g = stops_here one g (λ e. let f : status.BadLog place ≡ status.WriteFault = e in cc) (over_most left limits.f servers limits.k kept.requests place)
 
-module _ (k : ℕ) (left left' held : Option (List ℕ)) (server : Server) (table : ConfTable) (downs : List FaultPoint) (kept : Kept) (place : ℕ) (e : Event) (kept_k : k ≡ kept.limits.k) (r : Reads record_at (λ (x : Event). x) left left' (Ok e)) where
+module _ (l : Limits) (servers : ℕ) (left left' held : Option (List ℕ)) (server : Server) (table : ConfTable) (downs : List FaultPoint) (kept : Kept) (place : ℕ) (e : Event) (kept_l : l ≡ kept.limits) (r : Reads (record_at l.f servers) (λ (x : Event). x) left left' (Ok e)) where
   abbrev Before : Limits → (List ℕ → Log) → Snapshot → ℕ → Type 0
-  Before limits log old n = Going limits log old (snapshot left held server table downs) kept n place
+  Before limits log old n = Going limits servers log old (snapshot left held server table downs) kept n place
 
-  judged : (limits : Limits) (log : List ℕ → Log) (old : Snapshot) (n : ℕ) (v : verdict.the_data) → Before limits log old n → judge k kept.requests e ≡ v → judge limits.k kept.requests e ≡ v
-  judged limits log old n v g j = subst (λ (i : ℕ). judge i kept.requests e ≡ v) (kept_k ∙ ap (λ (l : Limits). l.k) g.here.limits_are) j
+  judged : (limits : Limits) (log : List ℕ → Log) (old : Snapshot) (n : ℕ) (v : verdict.the_data) → Before limits log old n → judge l.k kept.requests e ≡ v → judge limits.k kept.requests e ≡ v
+  judged limits log old n v g j = subst (λ (x : Limits). judge x.k kept.requests e ≡ v) (kept_l ∙ g.here.limits_are) j
 
-  pub turn_wrong : judge k kept.requests e ≡ verdict.Wrong → Turns (snapshot left held server table downs) (snapshot left' held server table downs) kept kept place (turns.Over (status.BadLog place))
-  turn_wrong j limits log old n one g = stops_here one g (λ e. let f : status.BadLog place ≡ status.WriteFault = e in cc) (over_wrong n limits.k kept.requests place r (judged limits log old (suc n) verdict.Wrong g j))
+  -- the record, as the limits of the run have it
+  taken_by : (limits : Limits) (log : List ℕ → Log) (old : Snapshot) (n : ℕ) → Before limits log old n → Reads (record_at limits.f servers) (λ (x : Event). x) left left' (Ok e)
+  taken_by limits log old n g = subst (λ (x : Limits). Reads (record_at x.f servers) (λ (y : Event). y) left left' (Ok e)) (kept_l ∙ g.here.limits_are) r
 
-  pub turn_waits : judge k kept.requests e ≡ verdict.Waits → Turns (snapshot left held server table downs) (snapshot left' held server table downs) kept kept place (turns.Over (status.NotBuilt place))
-  turn_waits j limits log old n one g = stops_here one g (λ e. let f : status.NotBuilt place ≡ status.WriteFault = e in cc) (over_waits n limits.k kept.requests place r (judged limits log old (suc n) verdict.Waits g j))
+  pub turn_wrong : judge l.k kept.requests e ≡ verdict.Wrong → Turns servers (snapshot left held server table downs) (snapshot left' held server table downs) kept kept place (turns.Over (status.BadLog place))
+  turn_wrong j limits log old n one g = stops_here one g (λ e. let f : status.BadLog place ≡ status.WriteFault = e in cc) (over_wrong n limits.f servers limits.k kept.requests place (taken_by limits log old (suc n) g) (judged limits log old (suc n) verdict.Wrong g j))
+
+  pub turn_waits : judge l.k kept.requests e ≡ verdict.Waits → Turns servers (snapshot left held server table downs) (snapshot left' held server table downs) kept kept place (turns.Over (status.NotBuilt place))
+  turn_waits j limits log old n one g = stops_here one g (λ e. let f : status.NotBuilt place ≡ status.WriteFault = e in cc) (over_waits n limits.f servers limits.k kept.requests place (taken_by limits log old (suc n) g) (judged limits log old (suc n) verdict.Waits g j))
 
   module _ (held' : Option (List ℕ)) (server' : Server) (table' : ConfTable) (downs' : List FaultPoint) (kept' : Kept) where
     -- a record was stepped, and its lines were written
-    pub turn_goes : (x : Unit) → judge k kept.requests e ≡ verdict.Goes → Written kept kept' server server' table table' downs downs' held held' e (Ok x)
-        → Turns (snapshot left held server table downs) (snapshot left' held' server' table' downs') kept kept' place (turns.Goes (place + record_len e))
+    pub turn_goes : (x : Unit) → judge l.k kept.requests e ≡ verdict.Goes → Written kept kept' server server' table table' downs downs' held held' e (Ok x)
+        → Turns servers (snapshot left held server table downs) (snapshot left' held' server' table' downs') kept kept' place (turns.Goes (place + record_len e))
     turn_goes x j w limits log old n one g = record {
       events = g.events ++ e ∷ [];
-      goes = subst (λ (q : List Request). Goes old.left left' log (records_from n limits.k q (place + record_len e)) (g.events ++ e ∷ [])) (sym w.steps.requests)
-          (Goes-then g.goes (one_goes n limits.k kept.requests place r (judged limits log old (suc n) verdict.Goes g j)));
+      goes = subst (λ (q : List Request). Goes old.left left' log (records_from n limits.f servers limits.k q (place + record_len e)) (g.events ++ e ∷ [])) (sym w.steps.requests)
+          (Goes-then g.goes (one_goes n limits.f servers limits.k kept.requests place (taken_by limits log old (suc n) g) (judged limits log old (suc n) verdict.Goes g j)));
       printed = appended_all old.held _ g.printed w.writes (text_more g.here w.steps);
       here = here_more g.here w.steps;
     }
 
     wrote_part : (limits : Limits) (log : List ℕ → Log) (old : Snapshot) (n : ℕ) (f : RunErr) (rest : List ℕ → Log) → (rest []).events ≡ [] → limits.f ≡ 0 → (g : Before limits log old (suc n))
-        → Goes left left' (records_from (suc n) limits.k kept.requests place) rest (e ∷ []) → Written kept kept' server server' table table' downs downs' held held' e (Err f)
+        → Goes left left' (records_from (suc n) limits.f servers limits.k kept.requests place) rest (e ∷ []) → Written kept kept' server server' table table' downs downs' held held' e (Err f)
         → Ran limits log old (snapshot left' held' server' table' downs') (run_status f)
     wrote_part limits log old n f rest none one g goes w =
         let all = Goes-then g.goes goes in
@@ -118,36 +125,38 @@ module _ (k : ℕ) (left left' held : Option (List ℕ)) (server : Server) (tabl
         subst (λ (x : List FaultPoint). Ran limits log old (snapshot left' held' server' table' x) status.NoMemory) (sym d)
         (subst (λ (x : Option (List ℕ)). Ran limits log old (snapshot left' x server' table' downs) status.NoMemory) (sym h)
         (ran_short one g.here later same
-        (subst (Ends old.left left' log status.NoMemory) (append-nil g.events) (Ends-then g.goes (over_memory (records_from n limits.k kept.requests place) r)))
+        (subst (Ends old.left left' log status.NoMemory) (append-nil g.events) (Ends-then g.goes (over_memory limits.f servers (records_from n limits.f servers limits.k kept.requests place) (taken_by limits log old n g))))
         (printed_all status.NoMemory g.printed) (cut_whole limits downs g.events)))
 
     err_is : (f : RunErr) (x : Result Unit RunErr) → x ≡ Err f → x ≡ Err run.NoMemory → run_status f ≡ status.NoMemory
     err_is f x h k = let same : f ≡ run.NoMemory = cc in ap run_status same
 
     -- a record was stepped, or memory wanted, and its lines were not all written
-    pub turn_failed : (f : RunErr) → server.faults ≤ server'.faults → server'.limits ≡ server.limits → (judge k kept.requests e ≡ verdict.Goes) ⊎ (judge k kept.requests e ≡ verdict.Ends)
+    pub turn_failed : (f : RunErr) → server.faults ≤ server'.faults → server'.limits ≡ server.limits → (judge l.k kept.requests e ≡ verdict.Goes) ⊎ (judge l.k kept.requests e ≡ verdict.Ends)
         → Stepped kept kept' server server' table table' downs downs' held held' e (Err f)
-        → Turns (snapshot left held server table downs) (snapshot left' held' server' table' downs') kept kept' place (turns.Over (run_status f))
+        → Turns servers (snapshot left held server table downs) (snapshot left' held' server' table' downs') kept kept' place (turns.Over (run_status f))
     turn_failed f later same (inl j) (inl w) limits log old n one g =
-        wrote_part limits log old n f (records_from n limits.k (kept.requests ++ asked_by e) (place + record_len e)) (nothing_more n limits.k (kept.requests ++ asked_by e) (place + record_len e)) one g (one_goes n limits.k kept.requests place r (judged limits log old (suc n) verdict.Goes g j)) w
+        wrote_part limits log old n f (records_from n limits.f servers limits.k (kept.requests ++ asked_by e) (place + record_len e)) (nothing_more n limits.f servers limits.k (kept.requests ++ asked_by e) (place + record_len e)) one g
+        (one_goes n limits.f servers limits.k kept.requests place (taken_by limits log old (suc n) g) (judged limits log old (suc n) verdict.Goes g j)) w
     turn_failed f later same (inr j) (inl w) limits log old n one g =
-        wrote_part limits log old n f (λ more. stops (behind_last (place + record_len e) more)) refl one g (last_goes n limits.k kept.requests place r (judged limits log old (suc n) verdict.Ends g j)) w
+        wrote_part limits log old n f (λ more. stops (behind_last (place + record_len e) more)) refl one g (last_goes n limits.f servers limits.k kept.requests place (taken_by limits log old (suc n) g) (judged limits log old (suc n) verdict.Ends g j)) w
     turn_failed f later same j (inr w) limits log old n one g =
         subst (Ran limits log old (snapshot left' held' server' table' downs')) (sym (err_is f _ refl w.is)) (wanted limits log old (suc n) later same w.downs_stay w.held_stay one g)
 
     -- the last record was stepped, its lines were written, and what stands behind it was looked at
-    pub turn_ends : (x : Unit) (left'' : Option (List ℕ)) (f : Status) → judge k kept.requests e ≡ verdict.Ends → Written kept kept' server server' table table' downs downs' held held' e (Ok x) → Finishes left' left'' (place + record_len e) f
-        → Turns (snapshot left held server table downs) (snapshot left'' held' server' table' downs') kept kept' place (turns.Over f)
+    pub turn_ends : (x : Unit) (left'' : Option (List ℕ)) (f : Status) → judge l.k kept.requests e ≡ verdict.Ends → Written kept kept' server server' table table' downs downs' held held' e (Ok x) → Finishes left' left'' (place + record_len e) f
+        → Turns servers (snapshot left held server table downs) (snapshot left'' held' server' table' downs') kept kept' place (turns.Over f)
     turn_ends x left'' f j w finish limits log old n one g =
         ran_here one (here_more g.here w.steps)
         (subst (Ends old.left left'' log f) (append-nil (g.events ++ e ∷ []))
-        (Ends-then (Goes-then g.goes (last_goes n limits.k kept.requests place r (judged limits log old (suc n) verdict.Ends g j))) (over_finish (place + record_len e) finish)))
+        (Ends-then (Goes-then g.goes (last_goes n limits.f servers limits.k kept.requests place (taken_by limits log old (suc n) g) (judged limits log old (suc n) verdict.Ends g j))) (over_finish (place + record_len e) finish)))
         (λ e. absurd (finish_no_write finish e)) (printed_all f (appended_all old.held _ g.printed w.writes (text_more g.here w.steps))) (cut_whole limits downs' (g.events ++ e ∷ []))
 
 -- no record was read
-pub turn_read : {k : ℕ} {left left' held : Option (List ℕ)} {server : Server} {table : ConfTable} {downs : List FaultPoint} {kept : Kept} {place : ℕ} {e : ReadErr} → k ≡ kept.limits.k → Reads record_at (λ (x : Event). x) left left' (Err e)
-    → Turns (snapshot left held server table downs) (snapshot left' held server table downs) kept kept place (turns.Over (read_status e place))
-turn_read {kept = kept} {place = place} {e = e} is r limits log old n one g = stops_here one g (read_no_write e place) (over_read n limits.k kept.requests place r)
+pub turn_read : {l : Limits} {servers : ℕ} {left left' held : Option (List ℕ)} {server : Server} {table : ConfTable} {downs : List FaultPoint} {kept : Kept} {place : ℕ} {e : ReadErr} → l ≡ kept.limits → Reads (record_at l.f servers) (λ (x : Event). x) left left' (Err e)
+    → Turns servers (snapshot left held server table downs) (snapshot left' held server table downs) kept kept place (turns.Over (read_status e place))
+turn_read {servers = servers} {left = left} {left' = left'} {kept = kept} {place = place} {e = e} is r limits log old n one g =
+    stops_here one g (read_no_write e place) (over_read n limits.f servers limits.k kept.requests place (subst (λ (x : Limits). Reads (record_at x.f servers) (λ (y : Event). y) left left' (Err e)) (is ∙ g.here.limits_are) r))
 
 -- what was stepped was not wanted
 pub not_wanted : {kept kept' : Kept} {server server' : Server} {table table' : ConfTable} {downs downs' : List FaultPoint} {held held' : Option (List ℕ)} {e : Event} {x : Unit} → Stepped kept kept' server server' table table' downs downs' held held' e (Ok x) → Written kept kept' server server' table table' downs downs' held held' e (Ok x)

@@ -48,22 +48,23 @@ pub record Here (limits : Limits) (old now : Server) (table : ConfTable) (downs 
   pub limits_stay : now.limits ≡ old.limits
 
 -- Some records were stepped, and their lines were written. At most n records are to come, the first at this byte.
-pub record Going (limits : Limits) (log : List ℕ → Log) (old now : Snapshot) (kept : Kept) (n place : ℕ) : Type 0 where
+pub record Going (limits : Limits) (servers : ℕ) (log : List ℕ → Log) (old now : Snapshot) (kept : Kept)
+    (n place : ℕ) : Type 0 where
   pub events : List Event
-  pub goes : Goes old.left now.left log (records_from n limits.k kept.requests place) events
+  pub goes : Goes old.left now.left log (records_from n limits.f servers limits.k kept.requests place) events
   pub printed : Appends old.held now.held (text_of (end_of (service limits) now.downs events).lines)
   pub here : Here limits old.server now.server now.table now.downs kept events
 
 -- what a turn came to
-abbrev pub TurnSays : Limits → (List ℕ → Log) → Snapshot → Snapshot → Kept → ℕ → Turn → Type 0
-TurnSays limits log old now kept n (turns.Goes next) = Going limits log old now kept n next
-TurnSays limits log old now kept n (turns.Over ended) = Ran limits log old now ended
+abbrev pub TurnSays : Limits → ℕ → (List ℕ → Log) → Snapshot → Snapshot → Kept → ℕ → Turn → Type 0
+TurnSays limits servers log old now kept n (turns.Goes next) = Going limits servers log old now kept n next
+TurnSays limits servers log old now kept n (turns.Over ended) = Ran limits log old now ended
 
--- from any run so far a turn leads to where this one says
-abbrev pub Turns : Snapshot → Snapshot → Kept → Kept → ℕ → Turn → Type 0
-Turns before now kept kept' place result =
+-- from any run so far, over so many servers, a turn leads to where this one says
+abbrev pub Turns : ℕ → Snapshot → Snapshot → Kept → Kept → ℕ → Turn → Type 0
+Turns servers before now kept kept' place result =
     (limits : Limits) (log : List ℕ → Log) (old : Snapshot) (n : ℕ) → limits.f ≡ 0 →
-    Going limits log old before kept (suc n) place → TurnSays limits log old now kept' n result
+    Going limits servers log old before kept (suc n) place → TurnSays limits servers log old now kept' n result
 
 -- the status of an error of the source, at an item that begins at this byte
 abbrev pub read_status : ReadErr → ℕ → Status

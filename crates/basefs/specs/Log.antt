@@ -11,7 +11,7 @@ use Rattle.log_format.specs.declared.Event.TheVariants as records
 use Rattle.log_format.specs.declared.Header.{Header}
 use Rattle.log_format.specs.Records.{header_at, record_at}
 use Rattle.cluster.specs.declared.Request.{Request}
-use Rattle.cluster.specs.Run.{asked_by}
+use Rattle.cluster.specs.Run.{is_built, asked_by}
 use Rattle.basefs.specs.declared.verdict.Verdict.{Verdict}
 use Rattle.basefs.specs.declared.verdict.Verdict.TheVariants.{Wrong, Waits, Goes, Ends}
 
@@ -36,9 +36,8 @@ judge_request k asked last time =
 -- what comes of a record behind these requests, with a checkpoint each k requests
 abbrev pub judge : ℕ → List Request → Event → Verdict
 judge k requests (records.Request client time bytes) = judge_request k (length requests) (last_time requests) time
-judge k requests records.RunAll = Goes
 judge k requests records.End = Ends
-judge k requests records.Unbuilt = Waits
+judge k requests event = if is_built event then Goes else Waits
 
 -- Why a log goes no further: it is whole; the header or record at this byte is wrong, or not built yet; or the bench
 -- has too few servers, or one that is too small.
@@ -66,16 +65,17 @@ abbrev pub behind_last : ℕ → List ℕ → Stop
 behind_last place [] = whole
 behind_last place (b ∷ bytes) = bad place
 
--- at most n records, the first at this byte, behind these requests
-unfoldable pub records_from : ℕ → ℕ → List Request → ℕ → List ℕ → Log
-records_from zero k requests place bytes = stops (bad place)
-records_from (suc n) k requests place bytes =
-    elim (record_at bytes) [
+-- At most n records, the first at this byte, behind these requests; f replicas may fail, and there are so many servers.
+unfoldable pub records_from : ℕ → (f servers k : ℕ) → List Request → ℕ → List ℕ → Log
+records_from zero f servers k requests place bytes = stops (bad place)
+records_from (suc n) f servers k requests place bytes =
+    elim (record_at f servers bytes) [
       | None ↦ stops (bad place)
       | Some x ↦ elim (judge k requests x.0) [
         | Wrong ↦ stops (bad place)
         | Waits ↦ stops (not_built place)
-        | Goes ↦ goes_on x.0 (records_from n k (requests ++ asked_by x.0) (place + (length bytes - length x.1)) x.1)
+        | Goes ↦ goes_on x.0
+            (records_from n f servers k (requests ++ asked_by x.0) (place + (length bytes - length x.1)) x.1)
         | Ends ↦ goes_on x.0 (stops (behind_last (place + (length bytes - length x.1)) x.1))
       ]
     ]
@@ -101,5 +101,7 @@ unfoldable pub log_of : {X : Type 0} → (X → ServerLimits) → List X → Lis
 log_of most servers bytes =
     elim (header_at bytes) [
       | None ↦ stops (bad 0)
-      | Some h ↦ if h.0.f == 0 then by_bench most h.0 servers (records_from 16777216 h.0.k [] 24 h.1) else stops (not_built 0)
+      | Some h ↦ if h.0.f == 0
+          then by_bench most h.0 servers (records_from 16777216 h.0.f (length servers) h.0.k [] 24 h.1)
+          else stops (not_built 0)
     ]

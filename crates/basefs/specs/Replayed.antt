@@ -31,17 +31,19 @@ pub record Unstarted (old new : Snapshot) : Type 0 where
   pub held : new.held ≡ old.held
   pub downs : new.downs ≡ []
 
--- the records of a log that begin at byte 24
-abbrev pub all_records : Limits → List ℕ → Log
-all_records limits = records_from 16777216 limits.k [] 24
+-- the records of a log that begin at byte 24, over so many servers
+abbrev pub all_records : Limits → ℕ → List ℕ → Log
+all_records limits servers = records_from 16777216 limits.f servers limits.k [] 24
 
-abbrev pub Begun : Limits → Snapshot → Snapshot → Result Kept RunErr → Type 0
-Begun limits old new (Ok kept) = Going limits (all_records limits) old new kept 16777216 24 × (kept.events ≡ 0)
-Begun limits old new (Err e) = Ran limits (all_records limits) old new (run_status e) ⊎
+abbrev pub Begun : Limits → ℕ → Snapshot → Snapshot → Result Kept RunErr → Type 0
+Begun limits servers old new (Ok kept) =
+    Going limits servers (all_records limits servers) old new kept 16777216 24 × (kept.events ≡ 0)
+Begun limits servers old new (Err e) = Ran limits (all_records limits servers) old new (run_status e) ⊎
     ((e ≡ NoMemory) × Unstarted old new)
 
-abbrev pub RunsAll : Limits → Snapshot → Snapshot → Status → Type 0
-RunsAll limits old new s = Ran limits (all_records limits) old new s ⊎ ((s ≡ status.NoMemory) × Unstarted old new)
+abbrev pub RunsAll : Limits → ℕ → Snapshot → Snapshot → Status → Type 0
+RunsAll limits servers old new s =
+    Ran limits (all_records limits servers) old new s ⊎ ((s ≡ status.NoMemory) × Unstarted old new)
 
 -- THE BENCH
 

@@ -14,6 +14,14 @@ use outside::{Sink, Source};
 use server_trait::{Bench, FileServer, Srv};
 use std::alloc::Global;
 
+/// A number of servers.
+fn narrow(count: usize) -> u32
+    requires { count < 2 ^ 32 }
+    ensures { result ≡ count }
+{
+    count as u32
+}
+
 /// Reads a log from the source, runs it over the servers of the bench, and writes its lines to the sink.
 pub fn replay<S: Source, O: Sink>(
     alloc: Global,
@@ -30,7 +38,7 @@ pub fn replay<S: Source, O: Sink>(
     ensures read { result ≡ Status.ReadFault → Rose (S.faults input.old) (S.faults input.new) }
     ensures write { result ≡ Status.WriteFault → Rose (O.faults out.old) (O.faults out.new) }
 {
-    let header = match read_header(alloc, input) {
+    let header = match read_header(input) {
         Ok(header) => header,
         Err(error) => return read_status(error, 0),
     };
@@ -40,6 +48,7 @@ pub fn replay<S: Source, O: Sink>(
     if let Some(status) = refusal(&header, &bench.servers) {
         return status;
     }
+    let servers = narrow(bench.servers.len());
     let Ok(()) = prepare(alloc, bench) else {
         return Status::NoMemory;
     };
@@ -52,6 +61,7 @@ pub fn replay<S: Source, O: Sink>(
     run_log(
         alloc,
         &limits,
+        servers,
         input,
         out,
         &mut bench.servers[0],

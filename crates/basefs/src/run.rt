@@ -1,6 +1,6 @@
 //! A run over one replica, from behind the header of a log.
 
-ghost use Rattle.std.specs.Prelude.{◌≡◌, ◌<◌, ◌≤◌, []};
+ghost use Rattle.std.specs.Prelude.{◌≡◌, ◌<◌, ◌≤◌, ℕ, []};
 ghost use Rattle.nfs2_types.specs.Counts.{Rose};
 ghost use Rattle.conf_map.specs.Stands.{AreWithin, HasRoom};
 ghost use Rattle.basefs.specs.Turns.{snapshot};
@@ -36,7 +36,7 @@ fn begin<S: Source, O: Sink>(
     requires within { AreWithin limits.now }
     requires room { HasRoom limits.now (state server.old).limits }
     requires none { downs.old.items ≡ [] }
-    ensures begun { Begun limits.now
+    ensures begun { (servers : ℕ) → Begun limits.now servers
         (snapshot (S.left input.old) (O.written out.old) (state server.old) table.old downs.old.items)
         (snapshot (S.left input.new) (O.written out.new) (state server.new) table.new downs.new.items) result }
     ensures input { input.new ≡ input.old }
@@ -48,10 +48,12 @@ fn begin<S: Source, O: Sink>(
     Ok(cluster)
 }
 
-/// Runs the records of a log over a replica with this server. The replica's array is kept in server and table alone.
+/// Runs the records of a log over a replica with this server, where there are so many servers. The replica's
+/// array is kept in server and table alone.
 pub fn run_log<S: Source, O: Sink>(
     alloc: Global,
     limits: &Limits,
+    servers: u32,
     input: &mut S,
     out: &mut O,
     server: &mut Srv,
@@ -63,7 +65,7 @@ pub fn run_log<S: Source, O: Sink>(
     requires interval { 0 < limits.now.k }
     requires room { HasRoom limits.now (state server.old).limits }
     requires none { downs.old.items ≡ [] }
-    ensures ran { RunsAll limits.now
+    ensures ran { RunsAll limits.now servers
         (snapshot (S.left input.old) (O.written out.old) (state server.old) table.old downs.old.items)
         (snapshot (S.left input.new) (O.written out.new) (state server.new) table.new downs.new.items) result }
     ensures reads { S.faults input.old ≤ S.faults input.new }
@@ -79,7 +81,8 @@ pub fn run_log<S: Source, O: Sink>(
     for _turn in 0..MOST_RECORDS {
         match take_turn(
             alloc,
-            limits.k,
+            limits,
+            servers,
             &mut cluster,
             place,
             input,

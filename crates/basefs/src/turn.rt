@@ -1,10 +1,13 @@
 //! One record of a log: read, judged, stepped, and its lines written.
 
-ghost use Rattle.std.specs.Prelude.{◌≡◌, ◌<◌, ◌≤◌, ◌^◌, length};
+ghost use Rattle.std.specs.Prelude.{◌≡◌, ◌+◌, ◌<◌, ◌≤◌, ◌^◌, length, IfOk};
 ghost use Rattle.nfs2_types.specs.Times.{is_time};
 ghost use Rattle.nfs2_types.specs.Counts.{Rose};
 ghost use Rattle.conf_map.specs.Stands.{HasRoom};
 ghost use Rattle.log_format.specs.Lines.{text_of};
+ghost use Rattle.log_format.specs.Records.{record_at};
+ghost use Rattle.log_format.specs.Spelling.{record_len};
+ghost use Rattle.log_stream.specs.Reading.{Reads, ReadHasCause};
 ghost use Rattle.log_stream.specs.Writing.{Writes};
 ghost use Rattle.cluster.specs.OverBench.{HasArray, CanStep};
 ghost use Rattle.basefs.specs.Turns.{Stepped, IsNear, snapshot};
@@ -14,10 +17,10 @@ ghost use Rattle.basefs.specs.Going.{read_status as status_of_read, run_status a
 use crate::run_err::RunErr;
 use crate::status::Status;
 use crate::verdict::Verdict;
-use cluster::Cluster;
+use cluster::{Cluster, is_built};
 use log_format::Event;
-use log_stream::{ReadErr, read_record, record_len, write_lines};
-use nfs2_types::{Blob, Time};
+use log_stream::{ReadErr, read_record, write_lines};
+use nfs2_types::{Limits, Time};
 use outside::{Sink, SinkErr, Source};
 use server_trait::{ConfTable, FaultPoint, Srv};
 use std::alloc::Global;
@@ -70,9 +73,9 @@ fn judge(k: u32, cluster: &Cluster, event: &Event) -> Verdict
         Event::Request { time, .. } => {
             judge_request(k, cluster.asked(), cluster.last_time(), *time)
         }
-        Event::RunAll => Verdict::Goes,
         Event::End => Verdict::Ends,
-        Event::Unbuilt => Verdict::Waits,
+        _ if is_built(event) => Verdict::Goes,
+        _ => Verdict::Waits,
     }
 }
 
@@ -112,6 +115,30 @@ fn finish<S: Source>(input: &mut S, place: u64) -> Status
     }
 }
 
+/// Reads the record that begins at this byte, which becomes the byte behind it.
+fn read_next<S: Source>(
+    alloc: Global,
+    f: u32,
+    servers: u32,
+    place: &mut u64,
+    input: &mut S,
+) -> Result<Event, ReadErr>
+    requires few { f ≤ 2 }
+    requires place { place.old < 2 ^ 63 }
+    ensures bytes { Reads (record_at f servers) (λ event. event) (S.left input.old) (S.left input.new) result }
+    ensures next { IfOk result (λ event. place.new ≡ place.old + record_len event) }
+    ensures near { IfOk result (λ event. record_len event ≤ 65556) }
+    ensures cause { ReadHasCause (S.faults input.old) (S.faults input.new) result }
+{
+    match read_record(alloc, input, f, servers) {
+        Ok(record) => {
+            *place += record.bytes.len() as u64;
+            Ok(record.event)
+        }
+        Err(error) => Err(error),
+    }
+}
+
 /// Steps a record, and writes its lines.
 fn step_and_write<O: Sink>(
     alloc: Global,
@@ -138,10 +165,11 @@ fn step_and_write<O: Sink>(
     Ok(())
 }
 
-/// Takes a turn: reads the record that begins at this byte, steps it and writes its lines.
+/// Takes a turn: reads the record that begins at this byte, over so many servers, steps it and writes its lines.
 pub fn take_turn<S: Source, O: Sink>(
     alloc: Global,
-    k: u32,
+    limits: &Limits,
+    servers: u32,
     cluster: &mut Cluster,
     place: u64,
     input: &mut S,
@@ -150,12 +178,13 @@ pub fn take_turn<S: Source, O: Sink>(
     table: &mut ConfTable,
     downs: &mut Vec<FaultPoint>,
 ) -> Turn
-    requires interval { (0 < k) × (k ≡ cluster.old.limits.k) }
+    requires interval { 0 < limits.now.k }
+    requires limits { (limits.now ≡ cluster.old.limits) × (limits.now.f ≤ 2) }
     requires place { place < 2 ^ 63 }
     requires array { HasArray cluster.old.limits (state server.old).tree table.old cluster.old.place }
     requires room { HasRoom cluster.old.limits (state server.old).limits }
     requires few { cluster.old.events < 2 ^ 32 }
-    ensures turn { Turns
+    ensures turn { Turns servers
         (snapshot (S.left input.old) (O.written out.old) (state server.old) table.old downs.old.items)
         (snapshot (S.left input.new) (O.written out.new) (state server.new) table.new downs.new.items)
         cluster.old cluster.new place result }
@@ -165,12 +194,12 @@ pub fn take_turn<S: Source, O: Sink>(
     ensures read { result ≡ Turn.Over Status.ReadFault → Rose (S.faults input.old) (S.faults input.new) }
     ensures write { result ≡ Turn.Over Status.WriteFault → Rose (O.faults out.old) (O.faults out.new) }
 {
-    let event = match read_record(alloc, input) {
+    let mut next = place;
+    let event = match read_next(alloc, limits.f, servers, &mut next, input) {
         Ok(event) => event,
         Err(error) => return Turn::Over(read_status(error, place)),
     };
-    let next = place + record_len(&event);
-    match judge(k, cluster, &event) {
+    match judge(limits.k, cluster, &event) {
         Verdict::Wrong => Turn::Over(Status::BadLog { at: place }),
         Verdict::Waits => Turn::Over(Status::NotBuilt { at: place }),
         Verdict::Goes => match step_and_write(alloc, cluster, event, out, server, table, downs) {

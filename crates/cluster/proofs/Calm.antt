@@ -9,7 +9,7 @@ use Rattle.nfs2_types.specs.declared.Word.{Word}
 use Rattle.nfs2_types.specs.declared.Word.TheVariants.{Silent, Reply}
 use Rattle.server_trait.specs.declared.FaultPoint.{FaultPoint}
 use Rattle.log_format.specs.declared.Event.{Event}
-use Rattle.log_format.specs.declared.Event.TheVariants.{Request as Ask, RunAll, End, Unbuilt}
+use Rattle.log_format.specs.declared.Event.TheVariants.{Request as Ask, RunAll, End}
 use Rattle.log_format.specs.declared.Line.{Line}
 use Rattle.log_format.specs.declared.Line.TheVariants as lines
 use Rattle.cluster.specs.declared.request.Request.{Request}
@@ -163,14 +163,14 @@ module _ (S : Service) (one : S.f ≡ 0) where
       let told : replies (m.lines ++ line ∷ []) ≡ said_upto S q h.place = replies-more m.lines line ∙ ap (λ t. replies m.lines ++ t) (told-at 0 h.condition) ∙ append-nil (replies m.lines) ∙ h.told in
       let is : alone q h.condition ds (m.lines ++ line ∷ []) ≡ last m (step S faults End m) = ap (λ (n : Moment). last n (step S faults End n)) (sym h.is_alone) in
       subst (IsRight S) is (right_of S q h.condition h.place (m.lines ++ line ∷ []) h.within h.array told)
-  step_right faults Unbuilt m h = h
+  step_right faults event m h = h
 
   pub step_requests : (faults : Faults) (event : Event) (m : Moment) → IsRight S m → (last m (step S faults event m)).state.requests ≡ m.state.requests ++ asked_by event
   unfolding step
   step_requests faults (Ask client time bytes) m h = refl
   step_requests faults RunAll m h = ap (λ (n : Moment). n.state.requests) (all_rounds faults m (one_seat m h)) ∙ rounds_requests faults m (length m.state.requests) h ∙ sym (append-nil m.state.requests)
   step_requests faults End m h = ap (λ (n : Moment). (last n (step S faults End n)).state.requests) h.is_alone ∙ sym (append-nil m.state.requests)
-  step_requests faults Unbuilt m h = sym (append-nil m.state.requests)
+  step_requests faults event m h = sym (append-nil m.state.requests)
 
   from_right : (downs : List FaultPoint) (e : ℕ) (events : List Event) (m : Moment) → IsRight S m → IsRight S (last m (run_from S downs e events m))
   from_right downs e [] m h = h

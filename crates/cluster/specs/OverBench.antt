@@ -1,6 +1,6 @@
 -- How a cluster of one replica and its bench stand for a moment of the model, and what a step of it does. The cluster
 -- keeps no array: the replica's array is what its server and table stand for, whichever it is.
-use Rattle.std.specs.Prelude.{true, ◌≡◌, ℕ, suc, ◌+◌, ◌-◌, ◌^◌, ◌<◌, ◌≤◌, min, List, [], ◌++◌, length, All, Option, Some, None}
+use Rattle.std.specs.Prelude.{true, IsTrue, ◌≡◌, ℕ, suc, ◌+◌, ◌-◌, ◌^◌, ◌<◌, ◌≤◌, min, List, [], ◌++◌, length, All, Option, Some, None}
 use Rattle.nfs2_types.specs.declared.Limits.{Limits}
 use Rattle.nfs2_types.specs.declared.Word.{Word}
 use Rattle.abs_model.specs.declared.Entry.{Entry}
@@ -11,14 +11,14 @@ use Rattle.conf_map.specs.Stands.{StandsValid}
 use Rattle.nfs2_types.specs.Times.{is_time}
 use Rattle.dispatch.specs.Answer.{answer}
 use Rattle.log_format.specs.declared.Event.{Event}
-use Rattle.log_format.specs.declared.Event.TheVariants.{Request as Ask, RunAll, End, Unbuilt}
+use Rattle.log_format.specs.declared.Event.TheVariants.{Request as Ask}
 use Rattle.log_format.specs.declared.Line.{Line}
 use Rattle.log_format.specs.declared.Line.TheVariants.{At, AtDown}
 use Rattle.cluster.specs.declared.request.Request.{Request}
 use Rattle.cluster.specs.Served.{service}
 use Rattle.cluster.specs.State.{lookup, Condition, Live, Down}
 use Rattle.cluster.specs.Step.{Moment, step, last}
-use Rattle.cluster.specs.Run.{faults_in, end_of, asked_by, AreMet}
+use Rattle.cluster.specs.Run.{faults_in, end_of, is_built, asked_by, AreMet}
 use Rattle.cluster.specs.Alone.{alone}
 
 -- what a cluster keeps: its limits, the requests, the place of its replica unless that is down,
@@ -96,9 +96,7 @@ HasArray limits tree table (Some place) = (A : List Entry) × StandsValid limits
 -- a record that can be stepped: one more request may come, at a time
 abbrev pub CanStep : List Request → Event → Type 0
 CanStep requests (Ask client time bytes) = (length requests < 1000000) × (is_time time ≡ true)
-CanStep requests RunAll = Unit {0}
-CanStep requests End = Unit {0}
-CanStep requests Unbuilt = ⊥
+CanStep requests event = IsTrue (is_built event)
 
 -- the start, whose fault points have the event number 0
 pub record Starts (limits : Limits) (new : Kept) (server server' : Server) (table' : ConfTable)

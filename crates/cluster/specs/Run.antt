@@ -1,11 +1,11 @@
 -- Whole runs: the start, the records one after the other, and where servers fail.
-use Rattle.std.specs.Prelude.{ℕ, suc, ◌+◌, ◌*◌, ◌≡◌, cond, ◌&&◌, ◌==◌, List, [], ◌∷◌, ◌++◌, replicate, map}
+use Rattle.std.specs.Prelude.{ℕ, suc, Bool, true, false, ◌+◌, ◌*◌, ◌≡◌, cond, ◌&&◌, ◌==◌, List, [], ◌∷◌, ◌++◌, replicate, map}
 use Rattle.std.specs.List.{list_any, flat_map}
 use Rattle.nfs2_types.specs.declared.Word.{Word}
 use Rattle.nfs2_types.specs.declared.Word.TheVariants as words
 use Rattle.server_trait.specs.declared.FaultPoint.{FaultPoint}
 use Rattle.log_format.specs.declared.Event.{Event}
-use Rattle.log_format.specs.declared.Event.TheVariants.{Request as Ask, RunAll, End, Unbuilt}
+use Rattle.log_format.specs.declared.Event.TheVariants.{Request as Ask, RunAll, End}
 use Rattle.log_format.specs.declared.Line.{Line}
 use Rattle.log_format.specs.declared.Line.TheVariants as lines
 use Rattle.cluster.specs.declared.request.Request.{Request}
@@ -59,12 +59,17 @@ end_of S downs events = last (fresh S) (run S downs events)
 
 -- WHAT LINES TELL
 
+-- the records whose steps are built
+abbrev pub is_built : Event → Bool
+is_built (Ask client time bytes) = true
+is_built RunAll = true
+is_built End = true
+is_built event = false
+
 -- the request that a record appends, if it is one
 abbrev pub asked_by : Event → List Request
 asked_by (Ask client time bytes) = record { time = time; bytes = bytes } ∷ []
-asked_by RunAll = []
-asked_by End = []
-asked_by Unbuilt = []
+asked_by event = []
 
 -- the requests of all records, in order
 abbrev pub requests_of : List Event → List Request

@@ -3,7 +3,7 @@ use Rattle.std.specs.Prelude.{ℕ, zero, suc, ◌+◌, Bool, true, false, cond, 
 use Rattle.nfs2_types.specs.declared.Word.{Word}
 use Rattle.nfs2_types.specs.declared.Word.TheVariants as words
 use Rattle.log_format.specs.declared.Event.{Event}
-use Rattle.log_format.specs.declared.Event.TheVariants.{Request as Ask, RunAll, End, Unbuilt}
+use Rattle.log_format.specs.declared.Event.TheVariants.{Request as Ask, RunAll, End}
 use Rattle.log_format.specs.declared.Line.{Line}
 use Rattle.log_format.specs.declared.Line.TheVariants as lines
 use Rattle.cluster.specs.declared.request.Request.{Request}
@@ -188,4 +188,4 @@ step S faults RunAll m =
     ms ++ last m ms ∷ []
 step S faults End m = prints_ends 0 m.state.replicas m ∷ []
 -- a record that is not built yet is never stepped
-step S faults Unbuilt m = m ∷ []
+step S faults event m = m ∷ []

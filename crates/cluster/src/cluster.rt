@@ -4,6 +4,7 @@ ghost use Rattle.std.specs.Prelude.{OnErr, option_map, slice_get, ◌-◌, true,
 ghost use Rattle.nfs2_types.specs.Times.{is_time};
 ghost use Rattle.conf_map.specs.Stands.{AreWithin, HasRoom};
 ghost use Rattle.cluster.specs.OverBench.{Starts};
+ghost use Rattle.cluster.specs.Run.{is_built as is_step_built};
 
 use crate::catch_up::{Ran, catch_up, push_line};
 use crate::request::Request;
@@ -33,6 +34,16 @@ impl Model for Cluster {
     ghost view = { λ c. record { limits = c.limits; requests = c.requests.items; place = c.place; events = c.events } };
 
     ghost invariant = { λ c. IsKept c.limits c.requests.items c.place };
+}
+
+/// Whether the step of such a record is built.
+pub fn is_built(event: &Event) -> bool
+    ensures { result ≡ is_step_built event.now }
+{
+    match event {
+        Event::Request { .. } | Event::RunAll | Event::End => true,
+        _ => false,
+    }
 }
 
 /// Puts a fault point behind the others.
@@ -148,7 +159,7 @@ impl Cluster {
             Event::Request { time, bytes, .. } => self.ask(alloc, time, bytes),
             Event::RunAll => self.run_rest(alloc, server, table, downs),
             Event::End => self.end(alloc),
-            Event::Unbuilt => Ok(Vec::new(alloc)),
+            _ => Ok(Vec::new(alloc)),
         }
     }
 

@@ -7,6 +7,6 @@ mod laws;
 mod replica;
 mod request;
 
-pub use cluster::Cluster;
+pub use cluster::{Cluster, is_built};
 pub use laws::runs_are_right;
 pub use request::Request;

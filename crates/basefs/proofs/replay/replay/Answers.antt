@@ -35,5 +35,6 @@ pub returns-clause-replayed : goal.returns-clause-replayed
 returns-clause-replayed g c =
     let none : eqb c.in-Ok.header.f 0 ≡ true = grind arith in
     let tables : 1 ≤ length c.prepare.new.bench.tables.items = (let enough = (rw c.deref.ensures.value at c.in_default.ensures).0 in omega (arith, enough, c.in-Ok-prepare.ensures.tables, c.args.bench.now.servers.ok.0, c.prepare.new.bench.tables.ok.0)) in
+    let count : c.narrow-servers.result ≡ length c.args.bench.now.servers.items = omega (arith, c.narrow-servers.ensures, c.len.ensures, c.args.bench.now.servers.ok.0) in
     replayed_run _ _ (g.S.Source.left c.read_header.new.input) _ _ _ c.args.bench.now.servers.items c.prepare.new.bench.servers.items c.prepare.new.bench.tables.items _ _ _ _ c.in-Ok.header c.run_log.result c.index_mut.result.now c.run_log.new.server c.index_mut-2.result.now c.run_log.new.table
-    c.in-Ok-prepare.ensures.servers tables c.index_mut.ensures.value c.index_mut-2.ensures.value c.in-Ok.ensures.bytes none (rw c.deref.ensures.value at c.in_default.ensures) c.run_log.ensures.ran
+    c.in-Ok-prepare.ensures.servers tables c.index_mut.ensures.value c.index_mut-2.ensures.value c.in-Ok.ensures.bytes none (rw c.deref.ensures.value at c.in_default.ensures) (rw count at c.run_log.ensures.ran)

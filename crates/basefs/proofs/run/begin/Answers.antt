@@ -8,8 +8,8 @@ use Rattle.basefs.proofs.run.begin.Goals as goal
 pub returns-in_err-write_lines-clause-begun : goal.returns-in_err-write_lines-clause-begun
 returns-in_err-write_lines-clause-begun g c =
     let p = err_from_is_err_and c.from_residual-in_err-write_lines.result c.from_residual-in_err-write_lines.ensures.1 in
-    rw (p.1, p.2) (inl (begun_failed c.args.limits.now c.in_ok-cluster.cluster _ _ c.args.table.now _ c.args.downs.now.items _ c.in_ok-cluster.lines.items c.in_ok-cluster.ensures.starts _ _ _ (run.Sink c.in_err-write_lines.field-0.0) c.requires.one
+    λ servers. rw (p.1, p.2) (inl (begun_failed c.args.limits.now c.in_ok-cluster.cluster _ _ c.args.table.now _ c.args.downs.now.items _ c.in_ok-cluster.lines.items c.in_ok-cluster.ensures.starts servers _ _ _ (run.Sink c.in_err-write_lines.field-0.0) c.requires.one
     (writes_err _ (rw c.deref.ensures.value at c.in_err-write_lines.ensures.bytes))))
 
 pub returns-clause-begun : goal.returns-clause-begun
-returns-clause-begun g c = begun c.args.limits.now c.in_ok-cluster.cluster _ _ c.args.table.now _ c.args.downs.now.items _ c.in_ok-cluster.lines.items c.in_ok-cluster.ensures.starts _ _ _ _ (writes_ok (rw c.deref.ensures.value at c.in_ok-write_lines.ensures.bytes))
+returns-clause-begun g c = λ servers. begun c.args.limits.now c.in_ok-cluster.cluster _ _ c.args.table.now _ c.args.downs.now.items _ c.in_ok-cluster.lines.items c.in_ok-cluster.ensures.starts servers _ _ _ _ (writes_ok (rw c.deref.ensures.value at c.in_ok-write_lines.ensures.bytes))

@@ -5,15 +5,15 @@ use Rattle.basefs.proofs.run.run_log.Goals as goal
 
 pub loop-turn-init : goal.loop-turn-init
 loop-turn-init g c = record {
-  going = c.in-Ok.ensures.begun.0;
+  going = (c.in-Ok.ensures.begun c.args.servers).0;
   near = omega arith;
-  counted = c.in-Ok.ensures.begun.1;
+  counted = (c.in-Ok.ensures.begun c.args.servers).1;
   reads = rw c.in-Ok.ensures.input (omega arith);
   writes = c.in-Ok.ensures.writes;
 }
 
-pub take_turn-requires-clause-interval : goal.take_turn-requires-clause-interval
-take_turn-requires-clause-interval g c = (c.requires.interval, rw c.loop-turn.invariant.going.here.limits_are refl)
+pub take_turn-requires-clause-limits : goal.take_turn-requires-clause-limits
+take_turn-requires-clause-limits g c = (rw c.loop-turn.invariant.going.here.limits_are refl, omega (arith, c.requires.one))
 
 pub take_turn-requires-clause-place : goal.take_turn-requires-clause-place
 take_turn-requires-clause-place g c = omega (arith, c.loop-turn.invariant.near, c.loop-turn-test.true)

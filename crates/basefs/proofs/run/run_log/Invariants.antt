@@ -6,7 +6,7 @@ use Rattle.basefs.proofs.run.run_log.Given as goal
 
 abbrev pub invariant-loop-turn : goal.invariant-loop-turn
 invariant-loop-turn g l = record {
-  going : Going l.limits (all_records l.limits)
+  going : Going l.limits l.servers (all_records l.limits l.servers)
       (snapshot (g.S.Source.left l.fn.input) (g.O.Sink.written l.fn.out) ((goal.FileServer-dyn g (l.fn.server.vtable, l.fn.server.value)).state l.fn.server.value) l.fn.table l.fn.downs.items)
       (snapshot (g.S.Source.left l.input) (g.O.Sink.written l.out) ((goal.FileServer-dyn g (l.server.vtable, l.server.value)).state l.server.value) l.table l.downs.items)
       l.cluster (16777216 - l._turn) l.place;
