@@ -10,7 +10,6 @@ use log_format::Header;
 use nfs2_types::NoMemory;
 use server_trait::{Bench, ConfTable, FileServer, ServerLimits, Srv};
 use std::alloc::Global;
-use std::collections::BTreeMap;
 
 /// Whether a server can't hold every array within the limits of a header.
 fn is_small(header: &Header, most: ServerLimits) -> bool
@@ -60,13 +59,7 @@ pub fn prepare(alloc: Global, bench: &mut Bench) -> Result<(), NoMemory>
     bench.downs = Vec::new(alloc);
     bench.tables = Vec::new(alloc);
     for _table in 0..bench.servers.len() {
-        let table = ConfTable {
-            rows: Vec::new(alloc),
-            by_handle: BTreeMap::new(alloc),
-        };
-        if bench.tables.push(table).is_err() {
-            return Err(NoMemory);
-        }
+        bench.tables.push(ConfTable::empty(alloc))?;
     }
     Ok(())
 }

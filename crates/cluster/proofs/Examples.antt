@@ -1,4 +1,5 @@
--- The model at work: short runs of a service whose array is a counter. A request counts one more, and is answered by the
+-- The model at work: short runs of a service whose array is a counter. A request counts one more, and is answered by
+-- the
 -- count, the seconds of its time and its own bytes; a request without bytes is silent.
 use Rattle.std.proofs.Common.{◌≡◌, ℕ, suc, List, [], ◌∷◌, length, refl}
 use Rattle.std.specs.Prelude.{map}
@@ -70,7 +71,8 @@ unfolding end_of run start step faults_in
 not_run = refl
 
 -- a server that fails in the second round leaves the later requests without an answer
-fails_alone : lines_of 0 (point 4 2 0 ∷ []) (ask 5 (7 ∷ []) ∷ ask 5 (8 ∷ []) ∷ ask 5 (9 ∷ []) ∷ RunAll ∷ RunAll ∷ End ∷ [])
+fails_alone : lines_of 0 (point 4 2 0 ∷ [])
+    (ask 5 (7 ∷ []) ∷ ask 5 (8 ∷ []) ∷ ask 5 (9 ∷ []) ∷ RunAll ∷ RunAll ∷ End ∷ [])
     ≡ lines.Reply 1 (0 ∷ 5 ∷ 7 ∷ []) ∷ lines.Down 0 ∷ lines.AtDown 0 ∷ []
 unfolding end_of run start step faults_in
 fails_alone = refl
@@ -81,7 +83,8 @@ unfolding end_of run start step faults_in
 fails_first = refl
 
 -- no server fails in a round in which its replica has nothing to run
-no_turn : lines_of 0 (point 2 2 0 ∷ []) (ask 5 (7 ∷ []) ∷ RunAll ∷ End ∷ []) ≡ lines.Reply 1 (0 ∷ 5 ∷ 7 ∷ []) ∷ lines.At 0 1 ∷ []
+no_turn : lines_of 0 (point 2 2 0 ∷ []) (ask 5 (7 ∷ []) ∷ RunAll ∷ End ∷ []) ≡ lines.Reply 1 (0 ∷ 5 ∷ 7 ∷ [])
+    ∷ lines.At 0 1 ∷ []
 unfolding end_of run start step faults_in
 no_turn = refl
 
@@ -89,7 +92,8 @@ no_turn = refl
 
 -- the moments are the start of each replica, the request, the four turns, and the end of the RunAll:
 -- the second word decides, and the later ones print nothing
-second_word : growth (run (service 1) [] (ask 5 (7 ∷ []) ∷ RunAll ∷ [])) ≡ 0 ∷ 0 ∷ 0 ∷ 0 ∷ 0 ∷ 0 ∷ 0 ∷ 1 ∷ 1 ∷ 1 ∷ 1 ∷ []
+second_word : growth (run (service 1) [] (ask 5 (7 ∷ []) ∷ RunAll ∷ [])) ≡ 0 ∷ 0 ∷ 0 ∷ 0 ∷ 0 ∷ 0 ∷ 0 ∷ 1 ∷ 1 ∷ 1 ∷ 1
+    ∷ []
 unfolding run start step faults_in
 second_word = refl
 
@@ -100,7 +104,9 @@ unfolding end_of run start step faults_in
 four_replicas = refl
 
 -- a word that differs is outvoted by two that are equal
-outvoted : (casts_word (service 1) 2 1 (Reply (7 ∷ [])) (casts_word (service 1) 1 1 (Reply (7 ∷ [])) (casts_word (service 1) 0 1 (Reply (8 ∷ [])) (fresh (service 1))))).lines
+outvoted : (casts_word (service 1) 2 1 (Reply (7 ∷ []))
+    (casts_word (service 1) 1 1 (Reply (7 ∷ []))
+    (casts_word (service 1) 0 1 (Reply (8 ∷ [])) (fresh (service 1))))).lines
     ≡ lines.Reply 1 (7 ∷ []) ∷ []
 outvoted = refl
 
@@ -109,18 +115,22 @@ not_decided : (casts_word (service 1) 1 1 Silent (casts_word (service 1) 0 1 (Re
 not_decided = refl
 
 -- the first decision is kept, whatever words come later
-first_decision : (casts_word (service 1) 3 1 (Reply (8 ∷ [])) (casts_word (service 1) 2 1 (Reply (8 ∷ [])) (casts_word (service 1) 1 1 Silent (casts_word (service 1) 0 1 Silent (fresh (service 1)))))).state.decisions
+first_decision : (casts_word (service 1) 3 1 (Reply (8 ∷ []))
+    (casts_word (service 1) 2 1 (Reply (8 ∷ []))
+    (casts_word (service 1) 1 1 Silent (casts_word (service 1) 0 1 Silent (fresh (service 1)))))).state.decisions
     ≡ (1, Silent) ∷ []
 first_decision = refl
 
 -- a server fails in the second round, and the others go on
 others_go_on : lines_of 1 (point 3 2 1 ∷ []) (ask 5 (7 ∷ []) ∷ ask 5 (8 ∷ []) ∷ RunAll ∷ End ∷ [])
-    ≡ lines.Reply 1 (0 ∷ 5 ∷ 7 ∷ []) ∷ lines.Down 1 ∷ lines.Reply 2 (1 ∷ 5 ∷ 8 ∷ []) ∷ lines.At 0 2 ∷ lines.AtDown 1 ∷ lines.At 2 2 ∷ lines.At 3 2 ∷ []
+    ≡ lines.Reply 1 (0 ∷ 5 ∷ 7 ∷ []) ∷ lines.Down 1 ∷ lines.Reply 2 (1 ∷ 5 ∷ 8 ∷ []) ∷ lines.At 0 2 ∷ lines.AtDown 1
+    ∷ lines.At 2 2 ∷ lines.At 3 2 ∷ []
 unfolding end_of run start step faults_in
 others_go_on = refl
 
 -- the word of a replica stands after its server failed
-words_stand : (casts_word (service 1) 1 1 Silent (fails 0 (casts_word (service 1) 0 1 Silent (fresh (service 1))))).lines ≡ lines.Down 0 ∷ lines.Silent 1 ∷ []
+words_stand : (casts_word (service 1) 1 1 Silent
+    (fails 0 (casts_word (service 1) 0 1 Silent (fresh (service 1))))).lines ≡ lines.Down 0 ∷ lines.Silent 1 ∷ []
 words_stand = refl
 
 -- where three servers failed, one word decides nothing

@@ -41,10 +41,12 @@ module _ (limits : Limits) (one : limits.f ≡ 0) where
 
   start_down : end_of S (record { event = 0; stage = 0; replica = 0 } ∷ []) [] ≡ alone [] Down [] (lines.Down 0 ∷ [])
   unfolding service faults_in
-  start_down = end_start S (record { event = 0; stage = 0; replica = 0 } ∷ []) ∙ start_end S one (record { event = 0; stage = 0; replica = 0 } ∷ []) ∙ ap (fails 0) (fresh_alone S one)
+  start_down = end_start S (record { event = 0; stage = 0; replica = 0 } ∷ [])
+      ∙ start_end S one (record { event = 0; stage = 0; replica = 0 } ∷ []) ∙ ap (fails 0) (fresh_alone S one)
 
   -- the server was made fresh
-  pub starts_live : 1 ≤ limits.n → (old new : Server) (table' : ConfTable) → Stands new.tree table' (empty_array limits.n) → new.limits ≡ old.limits → new.faults ≡ old.faults →
+  pub starts_live : 1 ≤ limits.n → (old new : Server) (table' : ConfTable) →
+      Stands new.tree table' (empty_array limits.n) → new.limits ≡ old.limits → new.faults ≡ old.faults →
       Starts limits (record { limits = limits; requests = []; place = Some 0; events = 0 }) old new table' [] []
   unfolding service
   starts_live some old new table' stands same quiet = record {
@@ -64,23 +66,31 @@ module _ (limits : Limits) (one : limits.f ≡ 0) where
 
   -- the server failed
   pub starts_down : (old new : Server) (table' : ConfTable) → new.limits ≡ old.limits → Rose old.faults new.faults →
-      Starts limits (record { limits = limits; requests = []; place = None; events = 0 }) old new table' (record { event = 0; stage = 0; replica = 0 } ∷ []) (lines.Down 0 ∷ [])
+      Starts limits (record { limits = limits; requests = []; place = None; events = 0 }) old new table'
+      (record { event = 0; stage = 0; replica = 0 } ∷ []) (lines.Down 0 ∷ [])
   starts_down old new table' same rose = record {
-    numbered = All-cons (λ (d : FaultPoint). (d.event ≡ 0) × (d.replica ≡ 0)) (record { event = 0; stage = 0; replica = 0 }) [] (refl, refl) (All-nil (λ (d : FaultPoint). (d.event ≡ 0) × (d.replica ≡ 0)));
+    numbered = All-cons (λ (d : FaultPoint). (d.event ≡ 0) × (d.replica ≡ 0))
+        (record { event = 0; stage = 0; replica = 0 }) [] (refl, refl)
+        (All-nil (λ (d : FaultPoint). (d.event ≡ 0) × (d.replica ≡ 0)));
     lines_are = refl;
     limits_are = refl;
     requests = refl;
     events = refl;
-    state = subst (IsState limits [] None new.tree table') (sym start_down) (record { condition = Down; is_alone = refl; seat = tt });
+    state = subst (IsState limits [] None new.tree table') (sym start_down)
+        (record { condition = Down; is_alone = refl; seat = tt });
     lines_said = ap (λ (m : Moment). m.lines) start_down;
     struck = struck_once old new same rose;
   }
 
   -- the same, with what the code keeps
-  pub starts_as : (place : Option ℕ) (old new : Server) (table' : ConfTable) (requests : List Request) (downs downs0 : List FaultPoint) (ls ls0 : List Line) → requests ≡ [] → downs ≡ downs0 → ls ≡ ls0 →
+  pub starts_as : (place : Option ℕ) (old new : Server) (table' : ConfTable) (requests : List Request)
+      (downs downs0 : List FaultPoint) (ls ls0 : List Line) → requests ≡ [] → downs ≡ downs0 → ls ≡ ls0 →
       Starts limits (record { limits = limits; requests = []; place = place; events = 0 }) old new table' downs0 ls0 →
       Starts limits (record { limits = limits; requests = requests; place = place; events = 0 }) old new table' downs ls
   starts_as place old new table' requests downs downs0 ls ls0 r d l h =
-      subst (λ (q : List Request). Starts limits (record { limits = limits; requests = q; place = place; events = 0 }) old new table' downs ls) (sym r)
-      (subst (λ (d : List FaultPoint). Starts limits (record { limits = limits; requests = []; place = place; events = 0 }) old new table' d ls) (sym d)
-      (subst (λ (l : List Line). Starts limits (record { limits = limits; requests = []; place = place; events = 0 }) old new table' downs0 l) (sym l) h))
+      subst (λ (q : List Request). Starts limits
+      (record { limits = limits; requests = q; place = place; events = 0 }) old new table' downs ls) (sym r)
+      (subst (λ (d : List FaultPoint). Starts limits
+      (record { limits = limits; requests = []; place = place; events = 0 }) old new table' d ls) (sym d)
+      (subst (λ (l : List Line). Starts limits
+      (record { limits = limits; requests = []; place = place; events = 0 }) old new table' downs0 l) (sym l) h))

@@ -23,15 +23,18 @@ abbrev pub slot : ℕ → Slot
 slot round = record { round = round; replica = 0 }
 
 undecided_more : (p : ℕ) (ds : List (ℕ × Word)) (w : Word) → Undecided p ds → Undecided (suc p) (ds ++ (suc p, w) ∷ [])
-undecided_more p ds w h = λ k lt. let differ : (suc p == k) ≡ false = grind (arith, nat_tests) in lookup-append k ds (suc p, w) (h k (omega arith)) differ
+undecided_more p ds w h = λ k lt. let differ : (suc p == k) ≡ false = grind (arith, nat_tests) in
+    lookup-append k ds (suc p, w) (h k (omega arith)) differ
 
-module _ (limits : Limits) (one : limits.f ≡ 0) (q : List Request) (faults : Faults) (round : ℕ) (p : ℕ) (r : Request) (is : slice_get q p ≡ Some r) where
+module _ (limits : Limits) (one : limits.f ≡ 0) (q : List Request) (faults : Faults) (round : ℕ) (p : ℕ) (r : Request)
+    (is : slice_get q p ≡ Some r) where
   one_f : (service limits).f ≡ 0
   unfolding service
   one_f = one
 
   -- it ran, and cast its word
-  pub turn_runs : (tree tree' : Option Tree) (table table' : ConfTable) (w : Word) (m : Moment) → faults round 0 ≡ false → Answered limits r tree tree' table table' w →
+  pub turn_runs : (tree tree' : Option Tree) (table table' : ConfTable) (w : Word) (m : Moment) →
+      faults round 0 ≡ false → Answered limits r tree tree' table table' w →
       IsState limits q (Some p) tree table m →
       IsState limits q (Some (suc p)) tree' table' (slot_turn (service limits) faults m (slot round))
       × ((slot_turn (service limits) faults m (slot round)).lines ≡ m.lines ++ decision_line (suc p) w ∷ [])
@@ -57,18 +60,31 @@ module _ (limits : Limits) (one : limits.f ≡ 0) (q : List Request) (faults : F
           let step = answered.step l.array stands in
           let place : suc l.place ≡ suc p = ap suc at in
           let word : S.word l.array r ≡ w = sym step.1 in
-          let ds' : ds ++ (suc l.place, S.word l.array r) ∷ [] ≡ ds ++ (suc p, w) ∷ [] = ap (λ n. ds ++ (n, S.word l.array r) ∷ []) place ∙ ap (λ w. ds ++ (suc p, w) ∷ []) word in
-          let ls' : ls ++ decision_line (suc l.place) (S.word l.array r) ∷ [] ≡ ls ++ decision_line (suc p) w ∷ [] = ap (λ n. ls ++ decision_line n (S.word l.array r) ∷ []) place ∙ ap (λ w. ls ++ decision_line (suc p) w ∷ []) word in
-          let is_now : slot_turn S faults (alone q (Live l) ds ls) (slot round) ≡ alone q (Live (ran S r l)) (ds ++ (suc p, w) ∷ []) (ls ++ decision_line (suc p) w ∷ []) =
-          runs ∙ ap (λ ds. alone q (Live (ran S r l)) ds (ls ++ decision_line (suc l.place) (S.word l.array r) ∷ [])) ds' ∙ ap (alone q (Live (ran S r l)) (ds ++ (suc p, w) ∷ [])) ls' in
-          let now : IsState limits q (Some (suc p)) tree' table' (alone q (Live (ran S r l)) (ds ++ (suc p, w) ∷ []) (ls ++ decision_line (suc p) w ∷ [])) =
-          record { condition = Live (ran S r l); is_alone = refl; seat = (place, step.0, undecided_more p ds w undecided) } in
+          let ds' : ds ++ (suc l.place, S.word l.array r) ∷ [] ≡ ds ++ (suc p, w)
+          ∷ [] = ap (λ n. ds ++ (n, S.word l.array r) ∷ []) place ∙ ap (λ w. ds ++ (suc p, w) ∷ []) word in
+          let ls' : ls ++ decision_line (suc l.place) (S.word l.array r) ∷ [] ≡ ls ++ decision_line (suc p) w
+          ∷ [] = ap (λ n. ls ++ decision_line n (S.word l.array r) ∷ []) place
+          ∙ ap (λ w. ls ++ decision_line (suc p) w ∷ []) word in
+          let is_now : slot_turn S faults (alone q (Live l) ds ls) (slot round) ≡ alone q (Live (ran S r l))
+          (ds ++ (suc p, w) ∷ []) (ls ++ decision_line (suc p) w ∷ []) =
+          runs ∙ ap (λ ds. alone q (Live (ran S r l)) ds
+          (ls ++ decision_line (suc l.place) (S.word l.array r) ∷ [])) ds'
+          ∙ ap (alone q (Live (ran S r l)) (ds ++ (suc p, w) ∷ [])) ls' in
+          let now : IsState limits q (Some (suc p)) tree' table'
+          (alone q (Live (ran S r l)) (ds ++ (suc p, w) ∷ []) (ls ++ decision_line (suc p) w ∷ [])) =
+          record {
+            condition = Live (ran S r l);
+            is_alone = refl;
+            seat = (place, step.0, undecided_more p ds w undecided);
+          } in
           (subst (IsState limits q (Some (suc p)) tree' table') (sym is_now) now, ap (λ (n : Moment). n.lines) is_now)
 
       by : (c : Condition) → m ≡ alone q c ds ls → IsSeat limits tree table (Some p) ds c →
-          IsState limits q (Some (suc p)) tree' table' (slot_turn S faults m (slot round)) × ((slot_turn S faults m (slot round)).lines ≡ ls ++ decision_line (suc p) w ∷ [])
+          IsState limits q (Some (suc p)) tree' table' (slot_turn S faults m (slot round))
+          × ((slot_turn S faults m (slot round)).lines ≡ ls ++ decision_line (suc p) w ∷ [])
       by (Live l) e seat =
-          subst (λ (n : Moment). IsState limits q (Some (suc p)) tree' table' (slot_turn S faults n (slot round)) × ((slot_turn S faults n (slot round)).lines ≡ ls ++ decision_line (suc p) w ∷ []))
+          subst (λ (n : Moment). IsState limits q (Some (suc p)) tree' table' (slot_turn S faults n (slot round))
+          × ((slot_turn S faults n (slot round)).lines ≡ ls ++ decision_line (suc p) w ∷ []))
           (sym e) (live l seat.0 seat.1 seat.2)
       by Down e seat = absurd seat
 
@@ -86,11 +102,14 @@ module _ (limits : Limits) (one : limits.f ≡ 0) (q : List Request) (faults : F
       ds = m.state.decisions
 
       by : (c : Condition) → m ≡ alone q c ds m.lines → IsSeat limits tree table (Some p) ds c →
-          IsState limits q None tree' table' (slot_turn S faults m (slot round)) × ((slot_turn S faults m (slot round)).lines ≡ m.lines ++ lines.Down 0 ∷ [])
+          IsState limits q None tree' table' (slot_turn S faults m (slot round))
+          × ((slot_turn S faults m (slot round)).lines ≡ m.lines ++ lines.Down 0 ∷ [])
       by (Live l) e seat =
           let here : slice_get q l.place ≡ Some r = ap (slice_get q) seat.0 ∙ is in
           let fails = slot_fails S one_f q l ds m.lines faults round r here struck in
-          let is_now : slot_turn S faults m (slot round) ≡ alone q Down ds (m.lines ++ lines.Down 0 ∷ []) = ap (λ (n : Moment). slot_turn S faults n (slot round)) e ∙ fails in
-          let now : IsState limits q None tree' table' (alone q Down ds (m.lines ++ lines.Down 0 ∷ [])) = record { condition = Down; is_alone = refl; seat = tt } in
+          let is_now : slot_turn S faults m (slot round) ≡ alone q Down ds (m.lines ++ lines.Down 0 ∷ []) = ap
+          (λ (n : Moment). slot_turn S faults n (slot round)) e ∙ fails in
+          let now : IsState limits q None tree' table' (alone q Down ds (m.lines ++ lines.Down 0 ∷ [])) =
+          record { condition = Down; is_alone = refl; seat = tt } in
           (subst (IsState limits q None tree' table') (sym is_now) now, ap (λ (n : Moment). n.lines) is_now)
       by Down e seat = absurd seat

@@ -1,4 +1,5 @@
--- How a cluster of one replica and its bench stand for a moment of the model, and what a step of it does. The cluster
+-- How a cluster of one replica and its bench stand for a moment of the model, and what a step of it does. The
+-- cluster
 -- keeps no array: the replica's array is what its server and table stand for, whichever it is.
 use Rattle.std.specs.Prelude.{true, IsTrue, ◌≡◌, ℕ, suc, ◌+◌, ◌-◌, ◌^◌, ◌<◌, ◌≤◌, min, List, [], ◌++◌, length, All, Option, Some, None}
 use Rattle.nfs2_types.specs.declared.Limits.{Limits}
@@ -65,7 +66,8 @@ pub record Struck (n : ℕ) (old new : Server) : Type 0 where
   pub rose : RoseBy n old.faults new.faults
   pub quiet : n ≡ 0 → new.faults ≡ old.faults
 
--- The model goes from any moment for which cluster, server and table stood by this step to one for which they stand now,
+-- The model goes from any moment for which cluster, server and table stood by this step to one for which they
+-- stand now,
 -- and these are the lines that it adds.
 abbrev pub Moves : Kept → Kept → Option Tree → Option Tree → ConfTable → ConfTable →
     List FaultPoint → Event → List Line → Type 0
@@ -74,8 +76,10 @@ Moves old new tree tree' table table' met event lines =
     let n = last m (step (service old.limits) (faults_in met (suc old.events)) event m) in
     IsState new.limits new.requests new.place tree' table' n × (n.lines ≡ m.lines ++ lines)
 
--- A step of the cluster: the fault points that it met come behind the others, have the number of this event, and each has
--- its `down` line; limits and earlier requests stay, one event more is counted, and the model makes the same step.
+-- A step of the cluster: the fault points that it met come behind the others, have the number of this event,
+-- and each has
+-- its `down` line; limits and earlier requests stay, one event more is counted, and the model makes the same
+-- step.
 pub record Steps (old new : Kept) (server server' : Server) (table table' : ConfTable)
     (downs downs' : List FaultPoint) (event : Event) (lines : List Line) : Type 0 where
   pub met : List FaultPoint

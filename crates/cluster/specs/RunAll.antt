@@ -41,16 +41,20 @@ place_after (Some round) requests = None
 abbrev pub RanSoFar : Limits → List Request → ℕ → Option Tree → Option Tree → ConfTable → ConfTable →
     ℕ → List Line → Type 0
 RanSoFar limits requests start tree tree' table table' k lines =
-    (faults : Faults) → IsSoundUpto k faults → (m : Moment) → IsState limits requests (Some start) tree table m →
+    (faults : Faults) → IsSoundUpto k faults → (m : Moment) →
+    IsState limits requests (Some start) tree table m →
     IsState limits requests (Some (start + k)) tree' table' (rounds (service limits) faults m k)
     × ((rounds (service limits) faults m k).lines ≡ m.lines ++ lines)
 
--- After all rounds, in one of which the server may have failed, the replica is at the end or down, and these are the lines.
+-- After all rounds, in one of which the server may have failed, the replica is at the end or down, and these
+-- are the lines.
 abbrev pub RanAll : Limits → List Request → ℕ → Option Tree → Option Tree → ConfTable → ConfTable →
     Option ℕ → List Line → Type 0
 RanAll limits requests start tree tree' table table' failed lines =
-    (faults : Faults) → FailsIn failed faults → (m : Moment) → IsState limits requests (Some start) tree table m →
-    IsState limits requests (place_after failed requests) tree' table' (rounds (service limits) faults m (length requests))
+    (faults : Faults) → FailsIn failed faults → (m : Moment) →
+    IsState limits requests (Some start) tree table m →
+    IsState limits requests (place_after failed requests) tree' table'
+    (rounds (service limits) faults m (length requests))
     × ((rounds (service limits) faults m (length requests)).lines ≡ m.lines ++ lines)
 
 -- the loop of a RunAll after k rounds: the server has not failed

@@ -1,4 +1,5 @@
--- What a server tells in numbers is what the array says: the bytes that are used, its nodes, and the names of an object.
+-- What a server tells in numbers is what the array says: the bytes that are used, its nodes, and the names of an
+-- object.
 use Rattle.std.proofs.Common.{◌≡◌, ◌≢◌, inl, inr, ℕ, zero, suc, ◌+◌, ◌≤◌, ◌<◌, arith, true, false, List, [], ◌∷◌, length, Option, Some, refl, sym, ap, ◌∙◌, cond}
 use Rattle.std.specs.Prelude.{not, sum_by, count_by, ◌==◌, bytes_eq}
 use Rattle.std.specs.Ordering.{nat_cmp}
@@ -35,7 +36,8 @@ use Rattle.conf_map.proofs.Sizes.{used_names, used_content}
 -- THE ROOT AND STAGING
 
 total-empty : (F : List ℕ → ℕ) → total F (let m : Names = empty in m) ≡ 0
-total-empty F = total-none nat_list_cmp_total F empty (λ q v is. absurd (some_none is (get-empty (slice_cmp nat_cmp) q)))
+total-empty F = total-none nat_list_cmp_total F empty
+    (λ q v is. absurd (some_none is (get-empty (slice_cmp nat_cmp) q)))
 
 apart_names : staging_name ≢ export_name
 apart_names e = let l : length staging_name ≡ length export_name = ap length e in absurd (omega arith)
@@ -43,8 +45,11 @@ apart_names e = let l : length staging_name ≡ length export_name = ap length e
 -- a sum over the root's names
 root_total : (F : List ℕ → ℕ) (export staging : List ℕ) → total F (root_names export staging) ≡ F staging + F export
 root_total F export staging =
-    let a = total-insert_new nat_list_cmp_total F (insert empty export_name export) staging_name staging (get-insert_other empty export_name export staging_name apart_names ∙ get-empty (slice_cmp nat_cmp) staging_name) in
-    let b = total-insert_new nat_list_cmp_total F empty export_name export (get-empty (slice_cmp nat_cmp) export_name) in
+    let a = total-insert_new nat_list_cmp_total F (insert empty export_name export) staging_name staging
+    (get-insert_other empty export_name export staging_name apart_names
+    ∙ get-empty (slice_cmp nat_cmp) staging_name) in
+    let b = total-insert_new nat_list_cmp_total F empty export_name export
+    (get-empty (slice_cmp nat_cmp) export_name) in
     let c = total-empty F in
     omega (arith, a, b, c)
 
@@ -54,10 +59,12 @@ used_null : (e : Entry) → e.object ≡ Null → entries.used_by e ≡ 0
 used_null e is = ap (λ o. entries.used_by (record { generation = e.generation; object = o })) is
 
 one_null : (e : Entry) → e.object ≡ Null → cond (not (is_null e)) 1 0 ≡ zero
-one_null e is = let null : is_null e ≡ true = ap (λ o. is_null (record { generation = e.generation; object = o })) is in let none : cond (not (is_null e)) 1 0 ≡ zero = ap (λ b. cond (not b) 1 0) null in none
+one_null e is = let null : is_null e ≡ true = ap (λ o. is_null (record { generation = e.generation; object = o })) is in
+    let none : cond (not (is_null e)) 1 0 ≡ zero = ap (λ b. cond (not b) 1 0) null in none
 
 -- a null entry is not counted
-null_not_live : (A : List Entry) (i : ℕ) → i < length A → is_null (entry_at A i) ≡ true → suc (count_by (λ e. not (is_null e)) A) ≤ length A
+null_not_live : (A : List Entry) (i : ℕ) → i < length A → is_null (entry_at A i) ≡ true →
+    suc (count_by (λ e. not (is_null e)) A) ≤ length A
 null_not_live [] i below null = absurd (omega arith)
 null_not_live (e ∷ A) zero below null =
     let sum = sum_by-cons (λ (e : Entry). cond (not (is_null e)) 1 0) e A in
@@ -67,12 +74,14 @@ null_not_live (e ∷ A) zero below null =
 null_not_live (e ∷ A) (suc i) below null =
     let sum = sum_by-cons (λ (e : Entry). cond (not (is_null e)) 1 0) e A in
     let few = null_not_live A i (omega arith) null in
-    elim (is_null e) as (λ b. sum_by (λ e. cond (not (is_null e)) 1 0) (e ∷ A) ≡ cond (not b) 1 0 + sum_by (λ e. cond (not (is_null e)) 1 0) A → suc (count_by (λ e. not (is_null e)) (e ∷ A)) ≤ length (e ∷ A)) [
+    elim (is_null e) as (λ b. sum_by (λ e. cond (not (is_null e)) 1 0) (e ∷ A) ≡ cond (not b) 1 0 + sum_by
+    (λ e. cond (not (is_null e)) 1 0) A → suc (count_by (λ e. not (is_null e)) (e ∷ A)) ≤ length (e ∷ A)) [
       | true ↦ λ sum. omega (arith, few, sum)
       | false ↦ λ sum. omega (arith, few, sum)
     ] sum
 
-module _ (limits : Limits) (s : Option Tree) (table : ConfTable) (A : List Entry) (st : Stands s table A) (v : Valid limits A) where
+module _ (limits : Limits) (s : Option Tree) (table : ConfTable) (A : List Entry) (st : Stands s table A)
+    (v : Valid limits A) where
   -- A server uses what its array uses, and two names more.
   pub used_agrees : tree.used st.tree ≡ 1024 + array.used A
   unfolding tree.used
@@ -80,11 +89,16 @@ module _ (limits : Limits) (s : Option Tree) (table : ConfTable) (A : List Entry
       let r = root_node st.tree table st.placed in
       let g = staging_node st.tree table st.placed in
       let a = stands_total s table A st (λ n. tree.used_by n.content) entries.used_by used_null
-      (λ i r e h n at_r at_e is at. used_content table.rows.items e.generation e.object n.content (fits_at limits A v i e at_e).rising (object_holds st.tree table.rows.items r e.generation e.object h n (st.each i r e at_r at_e).object is at).1)
+      (λ i r e h n at_r at_e is at. used_content table.rows.items e.generation e.object n.content
+      (fits_at limits A v i e at_e).rising
+      (object_holds st.tree table.rows.items r e.generation e.object h n (st.each i r e at_r at_e).object is at).1)
       r.0 g.0 r.1 g.1 in
-      let b = used_names r.0.content (root_names st.placed.export st.placed.staging) (sym (names_at-node st.tree st.tree.root r.0 r.1) ∙ st.placed.root_has) in
-      let c = used_names g.0.content empty (sym (names_at-node st.tree st.placed.staging g.0 g.1) ∙ st.placed.staging_has) in
-      let d = sym (total-ones (root_names st.placed.export st.placed.staging)) ∙ root_total (λ _. 1) st.placed.export st.placed.staging in
+      let b = used_names r.0.content (root_names st.placed.export st.placed.staging)
+      (sym (names_at-node st.tree st.tree.root r.0 r.1) ∙ st.placed.root_has) in
+      let c = used_names g.0.content empty
+      (sym (names_at-node st.tree st.placed.staging g.0 g.1) ∙ st.placed.staging_has) in
+      let d = sym (total-ones (root_names st.placed.export st.placed.staging))
+      ∙ root_total (λ _. 1) st.placed.export st.placed.staging in
       let e = sym (total-ones (let m : Names = empty in m)) ∙ total-empty (λ _. 1) in
       omega (arith, a, b, c, d, e)
 
@@ -94,14 +108,16 @@ module _ (limits : Limits) (s : Option Tree) (table : ConfTable) (A : List Entry
       let r = root_node st.tree table st.placed in
       let g = staging_node st.tree table st.placed in
       let a = stands_total s table A st (λ _. 1) (λ e. cond (not (is_null e)) 1 0) one_null
-      (λ i r e h n at_r at_e is at. ap (λ b. cond (not b) 1 0) (sym (live_object st.tree table.rows.items r e.generation e.object h (st.each i r e at_r at_e).object is)))
+      (λ i r e h n at_r at_e is at. ap (λ b. cond (not b) 1 0)
+      (sym (live_object st.tree table.rows.items r e.generation e.object h (st.each i r e at_r at_e).object is)))
       r.0 g.0 r.1 g.1 in
       let b = total-ones st.tree.nodes in
       omega (arith, a, b)
 
   -- at most two nodes more than entries
   pub nodes_few : len st.tree.nodes ≤ 2 + length A
-  nodes_few = let a = nodes_agree in let b = count_by-le-length (λ (e : Entry). not (is_null e)) A in omega (arith, a, b)
+  nodes_few = let a = nodes_agree in let b = count_by-le-length (λ (e : Entry). not (is_null e)) A in
+      omega (arith, a, b)
 
   -- and one less where some entry is null
   pub nodes_fewer : (i : ℕ) → i < length A → is_null (entry_at A i) ≡ true → len st.tree.nodes ≤ 1 + length A
@@ -114,22 +130,33 @@ module _ (limits : Limits) (s : Option Tree) (table : ConfTable) (A : List Entry
 -- NAMES OF ONE OBJECT
 
 bytes_not : (a b : List ℕ) → a ≢ b → bytes_eq a b ≡ false
-bytes_not a b ne = elim (bytes_eq a b) as (λ x. bytes_eq a b ≡ x → x ≡ false) [ true ↦ λ t. absurd (ne ((bytes_eq-Decides a b).0 t)) | false ↦ λ _. refl ] refl
+bytes_not a b ne = elim (bytes_eq a b) as
+    (λ x. bytes_eq a b ≡ x → x ≡ false) [
+      | true ↦ λ t. absurd
+          (ne ((bytes_eq-Decides a b).0 t))
+      | false ↦ λ _. refl
+    ] refl
 
-names_to-names : (h : List ℕ) (c : Content) (m : Names) → names_in c ≡ Some m → names_to h c ≡ total (λ x. one_if (bytes_eq x h)) m
+names_to-names : (h : List ℕ) (c : Content) (m : Names) → names_in c ≡ Some m →
+    names_to h c ≡ total (λ x. one_if (bytes_eq x h)) m
 names_to-names h (BytesOf b) m is = absurd (some_none is refl)
 names_to-names h (TextOf b) m is = absurd (some_none is refl)
 names_to-names h (NamesOf k) m is = ap (total (λ x. one_if (bytes_eq x h))) (some_same refl is)
 
-module _ (limits : Limits) (s : Option Tree) (table : ConfTable) (A : List Entry) (st : Stands s table A) (v : Valid limits A)
+module _ (limits : Limits) (s : Option Tree) (table : ConfTable) (A : List Entry) (st : Stands s table A)
+    (v : Valid limits A)
     (i : ℕ) (h : List ℕ) (at_i : handle_at table.rows.items i ≡ Some h) where
-  one_name : (r : NameRow) (x : List ℕ) → handle_at table.rows.items r.index ≡ Some x → one_if (bytes_eq x h) ≡ one_if (r.index == i)
+  one_name : (r : NameRow) (x : List ℕ) → handle_at table.rows.items r.index ≡ Some x →
+      one_if (bytes_eq x h) ≡ one_if (r.index == i)
   one_name r x is = elim (one_or_not r.index i) as (λ _. one_if (bytes_eq x h) ≡ one_if (r.index == i)) [
-    | inl e ↦ ap one_if ((bytes_eq-Decides x h).1 (some_same is (ap (handle_at table.rows.items) e ∙ at_i)) ∙ sym (eq_is r.index i e))
-    | inr ne ↦ ap one_if (bytes_not x h (λ e. ne (one_row st.tree table st.placed x r.index i is (at_i ∙ ap Some (sym e)))) ∙ sym (eq_not r.index i ne))
+    | inl e ↦ ap one_if ((bytes_eq-Decides x h).1 (some_same is (ap (handle_at table.rows.items) e ∙ at_i))
+        ∙ sym (eq_is r.index i e))
+    | inr ne ↦ ap one_if (bytes_not x h
+        (λ e. ne (one_row st.tree table st.placed x r.index i is (at_i ∙ ap Some (sym e)))) ∙ sym (eq_not r.index i ne))
   ]
 
-  content_links : (g : ℕ) (o : Object) (c : Content) → is_rising (names_of (record { generation = g; object = o })) ≡ true → SameContent table.rows.items o c →
+  content_links : (g : ℕ) (o : Object) (c : Content) → is_rising (names_of (record { generation = g; object = o }))
+      ≡ true → SameContent table.rows.items o c →
       names_to h c ≡ count_by (λ row. row.index == i) (names_of (record { generation = g; object = o }))
   content_links g Null c rising k = absurd k
   content_links g (File a b) c rising k = ap (names_to h) k
@@ -137,7 +164,8 @@ module _ (limits : Limits) (s : Option Tree) (table : ConfTable) (A : List Entry
   content_links g (Dir a names) c rising k =
       let m = some_and (names_in c) (SameNames table.rows.items names) k in
       names_to-names h c m.0 m.1
-      ∙ names_total table.rows.items names m.0 (λ x. one_if (bytes_eq x h)) (λ row. one_if (row.index == i)) rising m.2 one_name
+      ∙ names_total table.rows.items names m.0 (λ x. one_if (bytes_eq x h))
+      (λ row. one_if (row.index == i)) rising m.2 one_name
 
   -- The server counts as many names of an object other than the root as the array has.
   pub links_agrees : i ≢ 0 → tree.links st.tree h ≡ array.links A i
@@ -147,14 +175,20 @@ module _ (limits : Limits) (s : Option Tree) (table : ConfTable) (A : List Entry
       let g = staging_node st.tree table st.placed in
       let a = stands_total s table A st (λ n. names_to h n.content) (λ e. count_by (λ row. row.index == i) (names_of e))
       (λ e is. ap (count_by (λ (row : NameRow). row.index == i)) (no_names e is))
-      (λ j r e q n at_r at_e is at. content_links e.generation e.object n.content (fits_at limits A v j e at_e).rising (object_holds st.tree table.rows.items r e.generation e.object q n (st.each j r e at_r at_e).object is at).1)
+      (λ j r e q n at_r at_e is at. content_links e.generation e.object n.content (fits_at limits A v j e at_e).rising
+      (object_holds st.tree table.rows.items r e.generation e.object q n (st.each j r e at_r at_e).object is at).1)
       r.0 g.0 r.1 g.1 in
-      let b = names_to-names h r.0.content (root_names st.placed.export st.placed.staging) (sym (names_at-node st.tree st.tree.root r.0 r.1) ∙ st.placed.root_has) in
-      let c = names_to-names h g.0.content empty (sym (names_at-node st.tree st.placed.staging g.0 g.1) ∙ st.placed.staging_has) in
+      let b = names_to-names h r.0.content (root_names st.placed.export st.placed.staging)
+      (sym (names_at-node st.tree st.tree.root r.0 r.1) ∙ st.placed.root_has) in
+      let c = names_to-names h g.0.content empty
+      (sym (names_at-node st.tree st.placed.staging g.0 g.1) ∙ st.placed.staging_has) in
       let d = root_total (λ x. one_if (bytes_eq x h)) st.placed.export st.placed.staging in
       let e = total-empty (λ x. one_if (bytes_eq x h)) in
-      let u : one_if (bytes_eq st.placed.staging h) ≡ zero = ap one_if (bytes_not st.placed.staging h (λ e. (st.placed.apart i h at_i).1 (sym e))) in
-      let w : one_if (bytes_eq st.placed.export h) ≡ zero = ap one_if (bytes_not st.placed.export h (λ e. not_root (one_row st.tree table st.placed h i 0 at_i (st.placed.is_export ∙ ap Some e)))) in
+      let u : one_if (bytes_eq st.placed.staging h) ≡ zero = ap one_if
+      (bytes_not st.placed.staging h (λ e. (st.placed.apart i h at_i).1 (sym e))) in
+      let w : one_if (bytes_eq st.placed.export h) ≡ zero = ap one_if
+      (bytes_not st.placed.export h
+      (λ e. not_root (one_row st.tree table st.placed h i 0 at_i (st.placed.is_export ∙ ap Some e)))) in
       omega (arith, a, b, c, d, e, u, w)
 
   -- what is no directory is not the root

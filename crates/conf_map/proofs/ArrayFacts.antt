@@ -73,7 +73,8 @@ fits e is =
 pub dir_of_row : (e : Entry) (name : List ℕ) (r : NameRow) → row_of name (names_of e) ≡ Some r → is_dir e ≡ true
 dir_of_row e name r = by_object e.generation e.object
   where
-    by_object : (g : ℕ) (o : Object) → row_of name (names_of (record { generation = g; object = o })) ≡ Some r → is_dir (record { generation = g; object = o }) ≡ true
+    by_object : (g : ℕ) (o : Object) → row_of name (names_of (record { generation = g; object = o })) ≡ Some r →
+        is_dir (record { generation = g; object = o }) ≡ true
     by_object g Null is = absurd (some_none is refl)
     by_object g (File a b) is = absurd (some_none is refl)
     by_object g (Link a b) is = absurd (some_none is refl)
@@ -107,14 +108,20 @@ within_at A i below = slice_get-get_or A i null_entry below
 module _ (limits : Limits) (A : List Entry) (v : Valid limits A) where
   -- each entry fits
   pub fits_at : (i : ℕ) (e : Entry) → slice_get A i ≡ Some e → Fits e
-  fits_at i e at = fits e (subst (λ e. entry_fits e ≡ true) (entry_at-some A i e at) (v.fits i (slice_get_within A i e at)))
+  fits_at i e at = fits e
+      (subst (λ e. entry_fits e ≡ true) (entry_at-some A i e at) (v.fits i (slice_get_within A i e at)))
 
   -- each name leads to a live entry
-  pub led_at : (d : ℕ) (e : Entry) (k : ℕ) (r : NameRow) → slice_get A d ≡ Some e → slice_get (names_of e) k ≡ Some r → IsLed A r
-  led_at d e k r at row = led A r (all_at (leads A) (names_of e) k r (subst (λ e. list_all (leads A) (names_of e) ≡ true) (entry_at-some A d e at) (v.lead d (slice_get_within A d e at))) row)
+  pub led_at : (d : ℕ) (e : Entry) (k : ℕ) (r : NameRow) → slice_get A d ≡ Some e → slice_get (names_of e) k ≡ Some r →
+      IsLed A r
+  led_at d e k r at row = led A r
+      (all_at (leads A) (names_of e) k r
+      (subst (λ e. list_all (leads A) (names_of e) ≡ true) (entry_at-some A d e at)
+      (v.lead d (slice_get_within A d e at))) row)
 
   -- the name that finds a row leads to a live entry
-  pub led_by : (d : ℕ) (e : Entry) (name : List ℕ) (r : NameRow) → slice_get A d ≡ Some e → row_of name (names_of e) ≡ Some r → IsLed A r
+  pub led_by : (d : ℕ) (e : Entry) (name : List ℕ) (r : NameRow) → slice_get A d ≡ Some e →
+      row_of name (names_of e) ≡ Some r → IsLed A r
   led_by d e name r at is = let f = found_at (names_of e) name r is in led_at d e f.0 r at f.1
 
 -- COUNTS
@@ -122,10 +129,13 @@ module _ (limits : Limits) (A : List Entry) (v : Valid limits A) where
 -- one element's share of a sum, and that of two
 pub share_of : {X : Type 0} (f : X → ℕ) (xs : List X) (i : ℕ) (x : X) → slice_get xs i ≡ Some x → f x ≤ sum_by f xs
 share_of f [] i x at = absurd (some_none at refl)
-share_of f (y ∷ xs) zero x at = let same : f x ≡ f y = ap f (some_same at refl) in let sum = sum_by-cons f y xs in omega (arith, same, sum)
-share_of f (y ∷ xs) (suc i) x at = let rest = share_of f xs i x at in let sum = sum_by-cons f y xs in omega (arith, rest, sum)
+share_of f (y ∷ xs) zero x at = let same : f x ≡ f y = ap f (some_same at refl) in let sum = sum_by-cons f y xs in
+    omega (arith, same, sum)
+share_of f (y ∷ xs) (suc i) x at = let rest = share_of f xs i x at in let sum = sum_by-cons f y xs in
+    omega (arith, rest, sum)
 
-shares_of : {X : Type 0} (f : X → ℕ) (xs : List X) (i j : ℕ) (x y : X) → i ≢ j → slice_get xs i ≡ Some x → slice_get xs j ≡ Some y → f x + f y ≤ sum_by f xs
+shares_of : {X : Type 0} (f : X → ℕ) (xs : List X) (i j : ℕ) (x y : X) → i ≢ j → slice_get xs i ≡ Some x →
+    slice_get xs j ≡ Some y → f x + f y ≤ sum_by f xs
 shares_of f [] i j x y ne at_i at_j = absurd (some_none at_i refl)
 shares_of f (z ∷ xs) zero zero x y ne at_i at_j = absurd (ne refl)
 shares_of f (z ∷ xs) zero (suc j) x y ne at_i at_j =
@@ -160,14 +170,18 @@ entry_used A i e at = share_of used_by A i e at
 -- PARENTS
 
 -- a row that leads to an index stands in the list
-pub any_at : (rows : List NameRow) (j : ℕ) → list_any (λ r. r.index == j) rows ≡ true → (k : ℕ) × (r : NameRow) × (slice_get rows k ≡ Some r) × (r.index ≡ j)
+pub any_at : (rows : List NameRow) (j : ℕ) → list_any (λ r. r.index == j) rows ≡ true →
+    (k : ℕ) × (r : NameRow) × (slice_get rows k ≡ Some r) × (r.index ≡ j)
 any_at [] j h = absurd (let bad : false ≡ true = h in cc)
-any_at (x ∷ rows) j h = elim (x.index == j) as (λ b. (x.index == j) ≡ b → (b || list_any (λ r. r.index == j) rows) ≡ true → (k : ℕ) × (r : NameRow) × (slice_get (x ∷ rows) k ≡ Some r) × (r.index ≡ j)) [
-  | true ↦ λ t _. (zero, x, refl, eq_of x.index j t)
-  | false ↦ λ _ h. let k = any_at rows j h in (suc k.0, k.1, k.2, k.3)
-] refl h
+any_at (x ∷ rows) j h = elim (x.index == j) as
+    (λ b. (x.index == j) ≡ b → (b || list_any (λ r. r.index == j) rows) ≡ true →
+    (k : ℕ) × (r : NameRow) × (slice_get (x ∷ rows) k ≡ Some r) × (r.index ≡ j)) [
+      | true ↦ λ t _. (zero, x, refl, eq_of x.index j t)
+      | false ↦ λ _ h. let k = any_at rows j h in (suc k.0, k.1, k.2, k.3)
+    ] refl h
 
-any_from : (rows : List NameRow) (j k : ℕ) (r : NameRow) → slice_get rows k ≡ Some r → r.index ≡ j → list_any (λ r. r.index == j) rows ≡ true
+any_from : (rows : List NameRow) (j k : ℕ) (r : NameRow) → slice_get rows k ≡ Some r → r.index ≡ j →
+    list_any (λ r. r.index == j) rows ≡ true
 any_from [] j k r at is = absurd (some_none at refl)
 any_from (x ∷ rows) j zero r at is =
     let here : (x.index == j) ≡ true = eq_is x.index j (ap (λ (r : NameRow). r.index) (some_same refl at) ∙ is) in
@@ -188,7 +202,8 @@ row_counts e i has =
     omega (arith, share, one)
 
 -- what has one name has it in one directory
-pub one_parent : (A : List Entry) (i p q : ℕ) (e f : Entry) → links A i ≡ 1 → slice_get A p ≡ Some e → slice_get A q ≡ Some f → has_row_to i e ≡ true → has_row_to i f ≡ true → p ≡ q
+pub one_parent : (A : List Entry) (i p q : ℕ) (e f : Entry) → links A i ≡ 1 → slice_get A p ≡ Some e →
+    slice_get A q ≡ Some f → has_row_to i e ≡ true → has_row_to i f ≡ true → p ≡ q
 one_parent A i p q e f one at_p at_q has_p has_q = elim (one_or_not p q) as (λ _. p ≡ q) [
   | inl same ↦ same
   | inr ne ↦
@@ -205,14 +220,21 @@ row_within (e ∷ A) i zero has = omega arith
 row_within (e ∷ A) i (suc p) has = let below = row_within A i p has in omega arith
 
 -- the first entry that passes, where some does
-position_at : (p : Entry → Bool) (A : List Entry) (k : ℕ) → k < length A → p (entry_at A k) ≡ true → (q : ℕ) × (position p A ≡ Some q) × (q < length A) × (p (entry_at A q) ≡ true)
+position_at : (p : Entry → Bool) (A : List Entry) (k : ℕ) → k < length A → p (entry_at A k) ≡ true →
+    (q : ℕ) × (position p A ≡ Some q) × (q < length A) × (p (entry_at A q) ≡ true)
 position_at p A k below passes =
-    let first : position_or_len p A ≤ k = elim (nat_lt k (position_or_len p A)) as (λ b. nat_lt k (position_or_len p A) ≡ b → position_or_len p A ≤ k) [
-      | true ↦ λ t. absurd (let bad : true ≡ false = sym passes ∙ fails_before_first p A k null_entry (lt_of _ _ t) in cc)
+    let first : position_or_len p A ≤ k = elim (nat_lt k (position_or_len p A)) as
+    (λ b. nat_lt k (position_or_len p A) ≡ b → position_or_len p A ≤ k) [
+      | true ↦ λ t. absurd (let bad : true ≡ false = sym passes
+          ∙ fails_before_first p A k null_entry (lt_of _ _ t) in cc)
       | false ↦ λ f. le_from k (position_or_len p A) f
     ] refl in
-    let within : position_or_len p A < length A = omega arith in
-    (position_or_len p A, ap (λ b. cond b (Some (position_or_len p A)) None) (lt_is _ _ within), within, passes_at_first p A null_entry within)
+    let within : position_or_len p A < length A = omega arith in (
+      position_or_len p A,
+      ap (λ b. cond b (Some (position_or_len p A)) None) (lt_is _ _ within),
+      within,
+      passes_at_first p A null_entry within,
+    )
   where
     le_from : (a b : ℕ) → nat_lt a b ≡ false → b ≤ a
     le_from a b is = grind (arith, nat_tests)
@@ -221,13 +243,16 @@ position_at p A k below passes =
     lt_is a b is = grind (arith, nat_tests)
 
 -- the directory that names a directory is its parent
-pub parent_is : (limits : Limits) (A : List Entry) → Valid limits A → (p i : ℕ) → is_dir (entry_at A i) ≡ true → IsParent A p i → p ≡ parent A i
+pub parent_is : (limits : Limits) (A : List Entry) → Valid limits A → (p i : ℕ) → is_dir (entry_at A i) ≡ true →
+    IsParent A p i → p ≡ parent A i
 parent_is limits A v p i dir k = elim (one_or_not i 0) as (λ _. p ≡ parent A i) [
   | inl e ↦ k.0 e ∙ sym (ap (λ b. if b then 0 else unwrap_or (position (has_row_to i) A) 0) (eq_is i 0 e))
   | inr ne ↦
       let has = lead_row (entry_at A p) i (k.1 ne) in
       let below = row_within A i p has in
       let q = position_at (has_row_to i) A p below has in
-      one_parent A i p q.0 (entry_at A p) (entry_at A q.0) (v.one_name i dir ne) (within_at A p below) (within_at A q.0 q.2) has q.3
-      ∙ sym (ap (λ b. if b then 0 else unwrap_or (position (has_row_to i) A) 0) (eq_not i 0 ne) ∙ ap (λ o. unwrap_or o 0) q.1)
+      one_parent A i p q.0 (entry_at A p) (entry_at A q.0) (v.one_name i dir ne) (within_at A p below)
+      (within_at A q.0 q.2) has q.3
+      ∙ sym (ap (λ b. if b then 0 else unwrap_or (position (has_row_to i) A) 0) (eq_not i 0 ne)
+      ∙ ap (λ o. unwrap_or o 0) q.1)
 ]

@@ -28,13 +28,17 @@ use Rattle.conf_map.proofs.Agrees.{links_agrees, not_root}
 use Rattle.conf_map.proofs.Fattrs.{links_names, subdirs_agrees, shown_agrees}
 
 -- bytes within their bound, or names within the space
-few : (g : ℕ) (o : Object) → Fits (record { generation = g; object = o }) → used_by (record { generation = g; object = o }) ≤ 16777216 → length (bytes_of (record { generation = g; object = o })) + length (names_of (record { generation = g; object = o })) ≤ 1048576
+few : (g : ℕ) (o : Object) → Fits (record { generation = g; object = o }) →
+    used_by (record { generation = g; object = o }) ≤ 16777216 →
+    length (bytes_of (record { generation = g; object = o })) + length
+    (names_of (record { generation = g; object = o })) ≤ 1048576
 few g Null k room = omega arith
 few g (File a b) k room = let most : length b ≤ 1048576 = k.bytes in omega (arith, most)
 few g (Link a b) k room = let most : length b ≤ 1024 = k.bytes in omega (arith, most)
 few g (Dir a names) k room = omega arith
 
-module _ (limits : Limits) (s : Option Tree) (table : ConfTable) (A : List Entry) (st : Stands s table A) (v : Valid limits A) (within : AreWithin limits)
+module _ (limits : Limits) (s : Option Tree) (table : ConfTable) (A : List Entry) (st : Stands s table A)
+    (v : Valid limits A) (within : AreWithin limits)
     (i : ℕ) (h : List ℕ) (r : ConfEntry) (n : Node) where
   -- a directory has at most 32,768 names
   pub names_few : (e : Entry) → IsAt st.tree table A i h r n e → length (names_of e) ≤ 32768
@@ -48,13 +52,15 @@ module _ (limits : Limits) (s : Option Tree) (table : ConfTable) (A : List Entry
   one_links : (e : Entry) → IsAt st.tree table A i h r n e → is_dir e ≡ false → tree.links st.tree h ≤ 32768
   one_links e at other =
       let at_i = has_handle s table A st i h r n e at in
-      let same = links_agrees limits s table A st v i h at_i (not_root limits s table A st v i h at_i (ap is_dir (entry_at-some A i e at.is_entry) ∙ other)) in
+      let same = links_agrees limits s table A st v i h at_i
+      (not_root limits s table A st v i h at_i (ap is_dir (entry_at-some A i e at.is_entry) ∙ other)) in
       let a = links_used A i in
       let b = v.room in
       let c = within.3 in
       omega (arith, a, b, c, same)
 
-  few_links : (g : ℕ) (o : Object) → IsAt st.tree table A i h r n (record { generation = g; object = o }) → SameContent table.rows.items o n.content → links_of st.tree h n.content ≤ 32768
+  few_links : (g : ℕ) (o : Object) → IsAt st.tree table A i h r n (record { generation = g; object = o }) →
+      SameContent table.rows.items o n.content → links_of st.tree h n.content ≤ 32768
   few_links g Null at c = absurd c
   few_links g (File attr bytes) at c =
       let most = one_links _ at refl in
@@ -94,8 +100,11 @@ module _ (limits : Limits) (s : Option Tree) (table : ConfTable) (A : List Entry
       }
 
 -- What is shown of a live row's node after its server told of it is what the array says, and is small.
-pub told_attr : (server : Option Tree) (table : ConfTable) (A : List Entry) → StandValid server table A → (i : ℕ) (r : ConfEntry) (h : List ℕ) (a : NodeAttr) →
-    slice_get table.rows.items i ≡ Some r → r.handle ≡ Some h → ((t : Tree) → server ≡ Some t → IsSomeAnd (node_at t h) (IsAttr t h a)) → (shown a r i ≡ fattr A i) × AreSmall a i
+pub told_attr : (server : Option Tree) (table : ConfTable) (A : List Entry) → StandValid server table A →
+    (i : ℕ) (r : ConfEntry) (h : List ℕ) (a : NodeAttr) →
+    slice_get table.rows.items i ≡ Some r → r.handle ≡ Some h →
+    ((t : Tree) → server ≡ Some t → IsSomeAnd (node_at t h) (IsAttr t h a)) →
+    (shown a r i ≡ fattr A i) × AreSmall a i
 told_attr server table A k i r h a is_row is_handle told =
     let at = at_row server table A k.stands i r h is_row is_handle in
     let n = some_and (node_at k.stands.tree h) (IsAttr k.stands.tree h a) (told k.stands.tree k.stands.has_tree) in

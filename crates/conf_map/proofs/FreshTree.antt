@@ -25,7 +25,8 @@ export_new : get (empty {X = List ℕ} {R = slice_cmp nat_cmp}) export_name ≡ 
 export_new = get-empty (slice_cmp nat_cmp) export_name
 
 staging_new : (export : List ℕ) → get (export_names export) staging_name ≡ None
-staging_new export = get-insert_other empty export_name export staging_name names_differ ∙ get-empty (slice_cmp nat_cmp) staging_name
+staging_new export = get-insert_other empty export_name export staging_name names_differ
+    ∙ get-empty (slice_cmp nat_cmp) staging_name
 
 -- A DIRECTORY IS MADE
 
@@ -60,7 +61,8 @@ pub record IsMade (t : Tree) (dir name h : List ℕ) (n : Node) (new : Option Tr
   pub nodes : len tree.nodes ≡ len t.nodes + 1
   pub bytes : used tree ≡ used t + 512
 
-pub made_facts : (t : Tree) (dir name h : List ℕ) (n : Node) (m : Names) (new : Option Tree) → node_at t dir ≡ Some n → names_in n.content ≡ Some m → get m name ≡ None →
+pub made_facts : (t : Tree) (dir name h : List ℕ) (n : Node) (m : Names) (new : Option Tree) → node_at t dir ≡ Some n →
+    names_in n.content ≡ Some m → get m name ≡ None →
     Made t dir name (NamesOf empty) h new → IsMade t dir name h n new
 made_facts t dir name h n m new is_dir has lacks made = record {
   tree = t2;
@@ -73,7 +75,8 @@ made_facts t dir name h n m new is_dir has lacks made = record {
   at_new = node_at-edited_other t1 dir f h apart ∙ get-insert_same t.nodes h x;
   at_dir = node_at-edited_same t1 dir f n at_dir;
   others = λ q not_h not_dir. node_at-edited_other t1 dir f q not_dir ∙ get-insert_other t.nodes h x q not_h;
-  nodes = ap (λ (t : Tree). len t.nodes) (edited-some t1 dir f n at_dir) ∙ len_same t1.nodes dir (f n) n at_dir ∙ len_more t.nodes h x made.new_handle;
+  nodes = ap (λ (t : Tree). len t.nodes) (edited-some t1 dir f n at_dir) ∙ len_same t1.nodes dir (f n) n at_dir
+      ∙ len_more t.nodes h x made.new_handle;
   bytes =
       let a = used-edited t1 dir f n at_dir in
       let b = used-with_node t h x made.new_handle in
@@ -110,47 +113,61 @@ at_root : (root : List ℕ) (number : ℕ) → node_at (wiped root number) root 
 at_root root number = get-insert_same empty root (new_node number (NamesOf empty))
 
 nowhere_else : (root : List ℕ) (number : ℕ) (q : List ℕ) → q ≢ root → node_at (wiped root number) q ≡ None
-nowhere_else root number q ne = get-insert_other empty root (new_node number (NamesOf empty)) q ne ∙ get-empty (slice_cmp nat_cmp) q
+nowhere_else root number q ne = get-insert_other empty root (new_node number (NamesOf empty)) q ne
+    ∙ get-empty (slice_cmp nat_cmp) q
 
 wiped_nodes : (root : List ℕ) (number : ℕ) → len (wiped root number).nodes ≡ 1
-wiped_nodes root number = len_more empty root (new_node number (NamesOf empty)) (get-empty (slice_cmp nat_cmp) root) ∙ ap (λ n. n + 1) (len-empty (slice_cmp nat_cmp) Node)
+wiped_nodes root number = len_more empty root (new_node number (NamesOf empty)) (get-empty (slice_cmp nat_cmp) root)
+    ∙ ap (λ n. n + 1) (len-empty (slice_cmp nat_cmp) Node)
 
 nothing_used : (root : List ℕ) → used (record { root = root; nodes = empty }) ≡ 0
 unfolding used
-nothing_used root = total-none nat_list_cmp_total (λ (n : Node). used_by n.content) empty (λ k v is. absurd (some_none is (get-empty (slice_cmp nat_cmp) k)))
+nothing_used root = total-none nat_list_cmp_total (λ (n : Node). used_by n.content) empty
+    (λ k v is. absurd (some_none is (get-empty (slice_cmp nat_cmp) k)))
 
 wiped_bytes : (root : List ℕ) (number : ℕ) → used (wiped root number) ≡ 0
 wiped_bytes root number =
-    let a = used-with_node (record { root = root; nodes = empty }) root (new_node number (NamesOf empty)) (get-empty (slice_cmp nat_cmp) root) in
+    let a = used-with_node (record { root = root; nodes = empty }) root (new_node number (NamesOf empty))
+    (get-empty (slice_cmp nat_cmp) root) in
     let b = nothing_used root in
     let d = len-empty (slice_cmp nat_cmp) (List ℕ) in
     omega (arith, a, b, d)
 
-lacks_at : (t : Tree) (dir name : List ℕ) (n : Node) (m : Names) → node_at t dir ≡ Some n → names_in n.content ≡ Some m → get m name ≡ None → LacksName t dir name
+lacks_at : (t : Tree) (dir name : List ℕ) (n : Node) (m : Names) → node_at t dir ≡ Some n →
+    names_in n.content ≡ Some m → get m name ≡ None → LacksName t dir name
 lacks_at t dir name n m is has none = is_some_and (λ m. get m name ≡ None) (names_at-node t dir n is ∙ has) none
 
 -- the tree has room for one more directory
 abbrev HasRoomIn : Option Tree → ServerLimits → Type 0
 HasRoomIn s limits = IsSomeAnd s (λ t. HoldsUpTo limits (len t.nodes + 1) (used t + 512))
 
-has_room : (s : Option Tree) (limits : ServerLimits) (t : Tree) → s ≡ Some t → len t.nodes ≤ 2 → used t ≤ 512 → HoldsUpTo limits 3 1024 → HasRoomIn s limits
-has_room s limits t is few small holds = is_some_and (λ t. HoldsUpTo limits (len t.nodes + 1) (used t + 512)) is ((let h = holds.0 in omega arith), (let h = holds.1 in omega arith))
+has_room : (s : Option Tree) (limits : ServerLimits) (t : Tree) → s ≡ Some t → len t.nodes ≤ 2 → used t ≤ 512 →
+    HoldsUpTo limits 3 1024 → HasRoomIn s limits
+has_room s limits t is few small holds = is_some_and (λ t. HoldsUpTo limits (len t.nodes + 1) (used t + 512)) is
+    ((let h = holds.0 in omega arith), (let h = holds.1 in omega arith))
 
 -- the directories are made one after the other
-module _ (s0 : Option Tree) (root : List ℕ) (fresh : IsFresh s0) (is_root : (t : Tree) → s0 ≡ Some t → root ≡ t.root) where
+module _ (s0 : Option Tree) (root : List ℕ) (fresh : IsFresh s0)
+    (is_root : (t : Tree) → s0 ≡ Some t → root ≡ t.root) where
   pub is_wiped : s0 ≡ Some (wiped root fresh.number)
-  is_wiped = subst (λ r. s0 ≡ Some (wiped r fresh.number)) (sym (is_root (wiped fresh.root fresh.number) fresh.after)) fresh.after
+  is_wiped = subst (λ r. s0 ≡ Some (wiped r fresh.number))
+      (sym (is_root (wiped fresh.root fresh.number) fresh.after)) fresh.after
 
   pub lacks_export : IsSomeAnd s0 (λ t. LacksName t root export_name)
   lacks_export = is_some_and (λ t. LacksName t root export_name) is_wiped
-      (lacks_at (wiped root fresh.number) root export_name (new_node fresh.number (NamesOf empty)) empty (at_root root fresh.number) refl export_new)
+      (lacks_at (wiped root fresh.number) root export_name (new_node fresh.number (NamesOf empty)) empty
+      (at_root root fresh.number) refl export_new)
 
   pub room_export : (limits : ServerLimits) → HoldsUpTo limits 3 1024 → HasRoomIn s0 limits
-  room_export limits holds = let a = wiped_nodes root fresh.number in let b = wiped_bytes root fresh.number in has_room s0 limits (wiped root fresh.number) is_wiped (omega (arith, a)) (omega (arith, b)) holds
+  room_export limits holds = let a = wiped_nodes root fresh.number in let b = wiped_bytes root fresh.number in
+      has_room s0 limits (wiped root fresh.number) is_wiped (omega (arith, a)) (omega (arith, b)) holds
 
-  module _ (s1 : Option Tree) (export : List ℕ) (made : (t : Tree) → s0 ≡ Some t → Made t root export_name (NamesOf empty) export s1) where
+  module _ (s1 : Option Tree) (export : List ℕ)
+      (made : (t : Tree) → s0 ≡ Some t → Made t root export_name (NamesOf empty) export s1) where
     pub first : IsMade (wiped root fresh.number) root export_name export (new_node fresh.number (NamesOf empty)) s1
-    first = made_facts (wiped root fresh.number) root export_name export (new_node fresh.number (NamesOf empty)) empty s1 (at_root root fresh.number) refl export_new (made (wiped root fresh.number) is_wiped)
+    first = made_facts (wiped root fresh.number) root export_name export
+        (new_node fresh.number (NamesOf empty)) empty s1 (at_root root fresh.number) refl export_new
+        (made (wiped root fresh.number) is_wiped)
 
     abbrev root_node : Node
     root_node = new_node fresh.number (NamesOf (export_names export))
@@ -167,9 +184,11 @@ module _ (s0 : Option Tree) (root : List ℕ) (fresh : IsFresh s0) (is_root : (t
         let d = first.bytes in
         has_room s1 limits first.tree first.after (omega (arith, a, c)) (omega (arith, b, d)) holds
 
-    module _ (s2 : Option Tree) (staging : List ℕ) (made_too : (t : Tree) → s1 ≡ Some t → Made t root staging_name (NamesOf empty) staging s2) where
+    module _ (s2 : Option Tree) (staging : List ℕ)
+        (made_too : (t : Tree) → s1 ≡ Some t → Made t root staging_name (NamesOf empty) staging s2) where
       pub second : IsMade first.tree root staging_name staging root_node s2
-      second = made_facts first.tree root staging_name staging root_node (export_names export) s2 first.at_dir refl (staging_new export) (made_too first.tree first.after)
+      second = made_facts first.tree root staging_name staging root_node (export_names export) s2 first.at_dir refl
+          (staging_new export) (made_too first.tree first.after)
 
       apart : export ≢ staging
       apart e = some_none first.at_new (ap (node_at first.tree) e ∙ second.new_handle)
@@ -180,7 +199,8 @@ module _ (s0 : Option Tree) (root : List ℕ) (fresh : IsFresh s0) (is_root : (t
       pub has_export : IsSomeAnd s2 (λ t. IsSome (node_at t export))
       has_export = is_some_and (λ t. IsSome (node_at t export)) second.after (ap is_some at_export)
 
-      module _ (s3 : Option Tree) (set : (t : Tree) → s2 ≡ Some t → s3 ≡ Some (edited t export (with_attr 511 0 0))) where
+      module _ (s3 : Option Tree)
+          (set : (t : Tree) → s2 ≡ Some t → s3 ≡ Some (edited t export (with_attr 511 0 0))) where
         abbrev last : Tree
         last = edited second.tree export (with_attr 511 0 0)
 
@@ -188,40 +208,49 @@ module _ (s0 : Option Tree) (root : List ℕ) (fresh : IsFresh s0) (is_root : (t
         is_last = set second.tree second.after
 
         export_now : node_at last export ≡ Some (export_node first.number)
-        export_now = node_at-edited_same second.tree export (with_attr 511 0 0) (new_node first.number (NamesOf empty)) at_export
+        export_now = node_at-edited_same second.tree export (with_attr 511 0 0)
+            (new_node first.number (NamesOf empty)) at_export
 
         pub still_export : IsSomeAnd s3 (λ t. IsSome (node_at t export))
         still_export = is_some_and (λ t. IsSome (node_at t export)) is_last (ap is_some export_now)
 
         staging_now : node_at last staging ≡ Some (new_node second.number (NamesOf empty))
-        staging_now = node_at-edited_other second.tree export (with_attr 511 0 0) staging (λ e. apart (sym e)) ∙ second.at_new
+        staging_now = node_at-edited_other second.tree export (with_attr 511 0 0) staging (λ e. apart (sym e))
+            ∙ second.at_new
 
         root_now : node_at last root ≡ Some (new_node fresh.number (NamesOf (root_names export staging)))
-        root_now = node_at-edited_other second.tree export (with_attr 511 0 0) root (λ e. first.apart (sym e)) ∙ second.at_dir
+        root_now = node_at-edited_other second.tree export (with_attr 511 0 0) root (λ e. first.apart (sym e))
+            ∙ second.at_dir
 
         root_is : last.root ≡ root
         root_is = root-edited second.tree export (with_attr 511 0 0) ∙ second.root ∙ first.root
 
         none_else : (q : List ℕ) → q ≢ root → q ≢ staging → q ≢ export → node_at last q ≡ None
         none_else q not_root not_staging not_export =
-            node_at-edited_other second.tree export (with_attr 511 0 0) q not_export ∙ second.others q not_staging not_root ∙ first.others q not_export not_root ∙ nowhere_else root fresh.number q not_root
+            node_at-edited_other second.tree export (with_attr 511 0 0) q not_export
+            ∙ second.others q not_staging not_root ∙ first.others q not_export not_root
+            ∙ nowhere_else root fresh.number q not_root
 
         -- a node is one of three
-        three : (P : List ℕ → Node → Type 0) → P root (new_node fresh.number (NamesOf (root_names export staging))) → P staging (new_node second.number (NamesOf empty)) → P export (export_node first.number) →
+        three : (P : List ℕ → Node → Type 0) → P root (new_node fresh.number (NamesOf (root_names export staging))) →
+            P staging (new_node second.number (NamesOf empty)) → P export (export_node first.number) →
             (q : List ℕ) (n : Node) → node_at last q ≡ Some n → P q n
         three P a b c q n is = elim (bytes_or_not q root) as (λ _. P q n) [
           | inl e ↦ subst (λ q. P q n) (sym e) (subst (P root) (some_same root_now (ap (node_at last) (sym e) ∙ is)) a)
           | inr not_root ↦ elim (bytes_or_not q staging) as (λ _. P q n) [
-            | inl e ↦ subst (λ q. P q n) (sym e) (subst (P staging) (some_same staging_now (ap (node_at last) (sym e) ∙ is)) b)
+            | inl e ↦ subst (λ q. P q n) (sym e)
+                (subst (P staging) (some_same staging_now (ap (node_at last) (sym e) ∙ is)) b)
             | inr not_staging ↦ elim (bytes_or_not q export) as (λ _. P q n) [
-              | inl e ↦ subst (λ q. P q n) (sym e) (subst (P export) (some_same export_now (ap (node_at last) (sym e) ∙ is)) c)
+              | inl e ↦ subst (λ q. P q n) (sym e)
+                  (subst (P export) (some_same export_now (ap (node_at last) (sym e) ∙ is)) c)
               | inr not_export ↦ absurd (some_none is (none_else q not_root not_staging not_export))
             ]
           ]
         ]
 
         differ_first : first.number ≢ fresh.number
-        differ_first e = first.new_number root (new_node fresh.number (NamesOf empty)) (at_root root fresh.number) (sym e)
+        differ_first e = first.new_number root (new_node fresh.number (NamesOf empty)) (at_root root fresh.number)
+            (sym e)
 
         differ_second : second.number ≢ fresh.number
         differ_second e = second.new_number root root_node first.at_dir (sym e)
@@ -231,21 +260,29 @@ module _ (s0 : Option Tree) (root : List ℕ) (fresh : IsFresh s0) (is_root : (t
 
         numbers : DifferInNumber last
         numbers p q m n is_m is_n = three (λ p m. m.number ≡ n.number → p ≡ q)
-            (three (λ q n. fresh.number ≡ n.number → root ≡ q) (λ _. refl) (λ e. absurd (differ_second (sym e))) (λ e. absurd (differ_first (sym e))) q n is_n)
-            (three (λ q n. second.number ≡ n.number → staging ≡ q) (λ e. absurd (differ_second e)) (λ _. refl) (λ e. absurd (differ_both e)) q n is_n)
-            (three (λ q n. first.number ≡ n.number → export ≡ q) (λ e. absurd (differ_first e)) (λ e. absurd (differ_both (sym e))) (λ _. refl) q n is_n)
+            (three (λ q n. fresh.number ≡ n.number → root ≡ q) (λ _. refl) (λ e. absurd (differ_second (sym e)))
+            (λ e. absurd (differ_first (sym e))) q n is_n)
+            (three (λ q n. second.number ≡ n.number → staging ≡ q) (λ e. absurd (differ_second e)) (λ _. refl)
+            (λ e. absurd (differ_both e)) q n is_n)
+            (three (λ q n. first.number ≡ n.number → export ≡ q) (λ e. absurd (differ_first e))
+            (λ e. absurd (differ_both (sym e))) (λ _. refl) q n is_n)
             p m is_m
 
-        pub is_empty_tree : (s : Option Tree) (number : ℕ) → s ≡ s3 → ((t : Tree) (n : Node) → s3 ≡ Some t → node_at t export ≡ Some n → number ≡ n.number) → IsEmptyTree s export number
+        pub is_empty_tree : (s : Option Tree) (number : ℕ) → s ≡ s3 →
+            ((t : Tree) (n : Node) → s3 ≡ Some t → node_at t export ≡ Some n → number ≡ n.number) →
+            IsEmptyTree s export number
         is_empty_tree s number same told = record {
           tree = last;
           has_tree = same ∙ is_last;
           staging = staging;
-          root_has = ap (names_at last) root_is ∙ names_at-node last root (new_node fresh.number (NamesOf (root_names export staging))) root_now;
+          root_has = ap (names_at last) root_is ∙ names_at-node last root
+              (new_node fresh.number (NamesOf (root_names export staging))) root_now;
           staging_has = names_at-node last staging (new_node second.number (NamesOf empty)) staging_now;
-          export_is = export_now ∙ ap (λ n. Some (export_node n)) (sym (told last (export_node first.number) is_last export_now));
+          export_is = export_now ∙ ap (λ n. Some (export_node n))
+              (sym (told last (export_node first.number) is_last export_now));
           root_apart = λ e. second.apart (e ∙ root_is);
           export_apart = ((λ e. first.apart (e ∙ root_is)), apart);
-          covered = λ q n is. three (λ q _. (q ≡ last.root) ⊎ ((q ≡ staging) ⊎ (q ≡ export))) (inl (sym root_is)) (inr (inl refl)) (inr (inr refl)) q n is;
+          covered = λ q n is. three (λ q _. (q ≡ last.root) ⊎ ((q ≡ staging) ⊎ (q ≡ export))) (inl (sym root_is))
+              (inr (inl refl)) (inr (inr refl)) q n is;
           numbers = numbers;
         }

@@ -21,9 +21,11 @@ use Rattle.conf_map.proofs.Made.{no_lead}
 use Rattle.conf_map.proofs.SetNames.{dir_handle, dir_handle', dir_number, names_before, names_after, dir_row, lead_on}
 
 not_dir_null : (e : Entry) → e.object ≡ Null → is_dir e ≡ true → ⊥
-not_dir_null e is d = let bad : false ≡ true = sym (ap (λ o. is_dir (record { generation = e.generation; object = o })) is) ∙ d in cc
+not_dir_null e is d = let bad : false ≡ true = sym
+    (ap (λ o. is_dir (record { generation = e.generation; object = o })) is) ∙ d in cc
 
-module _ (s s' : Option Tree) (table table' : ConfTable) (A A' : List Entry) (t' : Tree) (d i : ℕ) (name : List ℕ) (st : Stands s table A) (c : DropsNode st.tree table A d name i t' table' A') where
+module _ (s s' : Option Tree) (table table' : ConfTable) (A A' : List Entry) (t' : Tree) (d i : ℕ) (name : List ℕ)
+    (st : Stands s table A) (c : DropsNode st.tree table A d name i t' table' A') where
   abbrev t : Tree
   t = st.tree
 
@@ -44,7 +46,8 @@ module _ (s s' : Option Tree) (table table' : ConfTable) (A A' : List Entry) (t'
 
   others : (j : ℕ) → j ≢ i → handle_at table'.rows.items j ≡ handle_at table.rows.items j
   others j ne = elim (one_or_not j d) as (λ _. handle_at table'.rows.items j ≡ handle_at table.rows.items j) [
-    | inl e ↦ subst (λ j. handle_at table'.rows.items j ≡ handle_at table.rows.items j) (sym e) (dir_handle' _ _ _ _ _ _ _ _ _ _ c.in_dir ∙ sym at_d)
+    | inl e ↦ subst (λ j. handle_at table'.rows.items j ≡ handle_at table.rows.items j) (sym e)
+        (dir_handle' _ _ _ _ _ _ _ _ _ _ c.in_dir ∙ sym at_d)
     | inr not_d ↦ same_handle table.rows.items table'.rows.items j (c.rows.others j not_d ne)
   ]
 
@@ -65,9 +68,11 @@ module _ (s s' : Option Tree) (table table' : ConfTable) (A A' : List Entry) (t'
   ]
 
   had : (q : List ℕ) (n : Node) → node_at t' q ≡ Some n → (m : Node) × (node_at t q ≡ Some m) × (m.number ≡ n.number)
-  had q n at = map_some (λ (n : Node). n.number) (node_at t q) n.number (sym (numbers q (still_node q n at)) ∙ ap (option_map (λ (n : Node). n.number)) at)
+  had q n at = map_some (λ (n : Node). n.number) (node_at t q) n.number
+      (sym (numbers q (still_node q n at)) ∙ ap (option_map (λ (n : Node). n.number)) at)
 
-  by_handle : (q : List ℕ) (k : ℕ) → (ordered.get (slice_cmp nat_cmp) table'.by_handle q ≡ Some k) ↔ (handle_at table'.rows.items k ≡ Some q)
+  by_handle : (q : List ℕ) (k : ℕ) → (ordered.get (slice_cmp nat_cmp) table'.by_handle q ≡ Some k) ↔
+      (handle_at table'.rows.items k ≡ Some q)
   by_handle q k = (there, back)
     where
       there : ordered.get (slice_cmp nat_cmp) table'.by_handle q ≡ Some k → handle_at table'.rows.items k ≡ Some q
@@ -80,62 +85,86 @@ module _ (s s' : Option Tree) (table table' : ConfTable) (A A' : List Entry) (t'
       back is =
           let ne = still_not_i k q is in
           let was : handle_at table.rows.items k ≡ Some q = sym (others k ne) ∙ is in
-          c.by_handles q (λ e. ne (one_row t table st.placed h k i (was ∙ ap Some e) at_i)) ∙ (st.placed.by_handle q k).1 was
+          c.by_handles q (λ e. ne (one_row t table st.placed h k i (was ∙ ap Some e) at_i))
+          ∙ (st.placed.by_handle q k).1 was
 
   fixed : (q : List ℕ) → q ≢ h → q ≢ dh → node_at t' q ≡ node_at t q
   fixed q ne nd = c.nodes q ne nd
 
   placed : Placed t' table'
   placed =
-      let same_root = fixed t.root (λ e. (st.placed.apart i h at_i).0 (sym e)) (λ e. (st.placed.apart d dh at_d).0 (sym e)) in
-      let same_staging = fixed st.placed.staging (λ e. (st.placed.apart i h at_i).1 (sym e)) (λ e. (st.placed.apart d dh at_d).1 (sym e)) in
+      let same_root = fixed t.root (λ e. (st.placed.apart i h at_i).0 (sym e))
+      (λ e. (st.placed.apart d dh at_d).0 (sym e)) in
+      let same_staging = fixed st.placed.staging (λ e. (st.placed.apart i h at_i).1 (sym e))
+      (λ e. (st.placed.apart d dh at_d).1 (sym e)) in
       record {
         export = st.placed.export;
         staging = st.placed.staging;
-        root_has = ap (names_at t') c.root ∙ ap (option_and_then (λ (n : Node). names_in n.content)) same_root ∙ st.placed.root_has;
+        root_has = ap (names_at t') c.root ∙ ap (option_and_then (λ (n : Node). names_in n.content)) same_root
+            ∙ st.placed.root_has;
         staging_has = ap (option_and_then (λ (n : Node). names_in n.content)) same_staging ∙ st.placed.staging_has;
         root_apart = λ e. st.placed.root_apart (e ∙ c.root);
         is_export = others 0 (λ e. c.not_root (sym e)) ∙ st.placed.is_export;
         by_handle = by_handle;
-        apart = λ k q is. let x = st.placed.apart k q (sym (others k (still_not_i k q is)) ∙ is) in ((λ e. x.0 (e ∙ c.root)), x.1);
+        apart = λ k q is. let x = st.placed.apart k q (sym (others k (still_not_i k q is)) ∙ is) in
+            ((λ e. x.0 (e ∙ c.root)), x.1);
         covered = covered;
-        numbers = λ a b m n is_m is_n same. let x = had a m is_m in let y = had b n is_n in st.placed.numbers a b x.0 y.0 x.1 y.1 (x.2 ∙ same ∙ sym y.2);
+        numbers = λ a b m n is_m is_n same. let x = had a m is_m in let y = had b n is_n in
+            st.placed.numbers a b x.0 y.0 x.1 y.1 (x.2 ∙ same ∙ sym y.2);
       }
     where
-      covered : (q : List ℕ) (n : Node) → node_at t' q ≡ Some n → (q ≡ t'.root) ⊎ ((q ≡ st.placed.staging) ⊎ ((k : ℕ) × (handle_at table'.rows.items k ≡ Some q)))
-      covered q n is = let m = had q n is in elim (st.placed.covered q m.0 m.1) as (λ _. (q ≡ t'.root) ⊎ ((q ≡ st.placed.staging) ⊎ ((k : ℕ) × (handle_at table'.rows.items k ≡ Some q)))) [
-        | inl e ↦ inl (e ∙ sym c.root)
-        | inr x ↦ inr (elim x as (λ _. (q ≡ st.placed.staging) ⊎ ((k : ℕ) × (handle_at table'.rows.items k ≡ Some q))) [
-          | inl e ↦ inl e
-          | inr y ↦ inr (y.0, others y.0 (not_i y.0 q y.1 (still_node q n is)) ∙ y.1)
-        ])
-      ]
+      covered : (q : List ℕ) (n : Node) → node_at t' q ≡ Some n →
+          (q ≡ t'.root) ⊎ ((q ≡ st.placed.staging) ⊎ ((k : ℕ) × (handle_at table'.rows.items k ≡ Some q)))
+      covered q n is = let m = had q n is in elim (st.placed.covered q m.0 m.1) as
+          (λ _. (q ≡ t'.root) ⊎ ((q ≡ st.placed.staging) ⊎ ((k : ℕ) × (handle_at table'.rows.items k ≡ Some q)))) [
+            | inl e ↦ inl (e ∙ sym c.root)
+            | inr x ↦ inr (elim x as (λ _. (q ≡ st.placed.staging) ⊎ ((k : ℕ) × (handle_at table'.rows.items k ≡ Some q))) [
+              | inl e ↦ inl e
+              | inr y ↦ inr (y.0, others y.0 (not_i y.0 q y.1 (still_node q n is)) ∙ y.1)
+            ])
+          ]
 
   -- names of other directories lead on to what is no row i
-  led : (p : ℕ) (x : List ℕ) (row : NameRow) → row_of x (names_of (entry_at A' p)) ≡ Some row → (q : List ℕ) → handle_at table.rows.items row.index ≡ Some q → handle_at table'.rows.items row.index ≡ Some q
+  led : (p : ℕ) (x : List ℕ) (row : NameRow) → row_of x (names_of (entry_at A' p)) ≡ Some row → (q : List ℕ) →
+      handle_at table.rows.items row.index ≡ Some q → handle_at table'.rows.items row.index ≡ Some q
   led p x row is q at = others row.index (c.unnamed p x row is) ∙ at
 
   lead_still : (p j : ℕ) → j ≢ i → LeadTo (names_of (entry_at A p)) j → LeadTo (names_of (entry_at A' p)) j
   lead_still p j ne l = elim (one_or_not p d) as (λ _. LeadTo (names_of (entry_at A' p)) j) [
-    | inl e ↦ subst (λ names. LeadTo names j) (sym (ap (λ p. names_of (entry_at A' p)) e ∙ names_after _ _ _ _ _ _ _ _ _ _ c.in_dir))
-        (lead_on _ _ _ _ _ _ _ _ _ _ c.in_dir j (λ row is e. ne (sym e ∙ ap (λ (r : NameRow). r.index) (some_same is c.was) ∙ c.was_index)) (subst (λ names. LeadTo names j) (ap (λ p. names_of (entry_at A p)) e ∙ names_before _ _ _ _ _ _ _ _ _ _ c.in_dir) l))
+    | inl e ↦ subst (λ names. LeadTo names j)
+        (sym (ap (λ p. names_of (entry_at A' p)) e ∙ names_after _ _ _ _ _ _ _ _ _ _ c.in_dir))
+        (lead_on _ _ _ _ _ _ _ _ _ _ c.in_dir j
+        (λ row is e. ne (sym e ∙ ap (λ (r : NameRow). r.index) (some_same is c.was) ∙ c.was_index))
+        (subst (λ names. LeadTo names j)
+        (ap (λ p. names_of (entry_at A p)) e ∙ names_before _ _ _ _ _ _ _ _ _ _ c.in_dir) l))
     | inr not_d ↦ elim (one_or_not p i) as (λ _. LeadTo (names_of (entry_at A' p)) j) [
-      | inl e ↦ absurd (no_lead (names_of (entry_at A p)) j (ap (λ p. names_of (entry_at A p)) e ∙ ap names_of (entry_at-some A i c.entry c.before.is_entry) ∙ c.empty) l)
-      | inr not_i ↦ subst (λ names. LeadTo names j) (sym (ap names_of (same_entry A' A p (c.array.others p not_d not_i)))) l
+      | inl e ↦ absurd (no_lead (names_of (entry_at A p)) j
+          (ap (λ p. names_of (entry_at A p)) e ∙ ap names_of (entry_at-some A i c.entry c.before.is_entry) ∙ c.empty) l)
+      | inr not_i ↦ subst (λ names. LeadTo names j)
+          (sym (ap names_of (same_entry A' A p (c.array.others p not_d not_i)))) l
     ]
   ]
 
-  at_dir : RowIs t' table'.rows.items A' d c.in_dir.row' (record { generation = c.in_dir.generation; object = Dir c.in_dir.attr' c.in_dir.names' })
+  at_dir : RowIs t' table'.rows.items A' d c.in_dir.row'
+      (record { generation = c.in_dir.generation; object = Dir c.in_dir.attr' c.in_dir.names' })
   at_dir =
-      let old = st.each d c.in_dir.row (record { generation = c.in_dir.generation; object = Dir c.in_dir.attr c.in_dir.names }) c.in_dir.before.is_row c.in_dir.before.is_entry in
+      let old = st.each d c.in_dir.row
+      (record {
+        generation = c.in_dir.generation;
+        object =
+            Dir c.in_dir.attr c.in_dir.names;
+      }) c.in_dir.before.is_row c.in_dir.before.is_entry in
       let was = old.parent refl in
       dir_row _ _ _ _ _ _ _ _ _ _ c.in_dir old
-      (λ x row ne is q at. led d x row (ap (row_of x) (names_after _ _ _ _ _ _ _ _ _ _ c.in_dir) ∙ c.in_dir.rows_to x ne ∙ is) q at) tt
-      (subst (λ p. IsParent A' p d) (sym c.in_dir.parent) (was.0, λ ne. lead_still c.in_dir.row.parent d c.apart (was.1 ne)))
+      (λ x row ne is q at. led d x row
+      (ap (row_of x) (names_after _ _ _ _ _ _ _ _ _ _ c.in_dir) ∙ c.in_dir.rows_to x ne ∙ is) q at) tt
+      (subst (λ p. IsParent A' p d) (sym c.in_dir.parent)
+      (was.0, λ ne. lead_still c.in_dir.row.parent d c.apart (was.1 ne)))
 
   at_object : RowIs t' table'.rows.items A' i c.row' c.entry'
   at_object = record {
-    generation = c.row_generation ∙ (st.each i c.row c.entry c.before.is_row c.before.is_entry).generation ∙ sym c.entry_generation;
+    generation = c.row_generation ∙ (st.each i c.row c.entry c.before.is_row c.before.is_entry).generation
+        ∙ sym c.entry_generation;
     object = subst (IsObject t' table'.rows.items c.row') (sym c.entry_null) c.row_null;
     parent = λ is. absurd (not_dir_null c.entry' c.entry_null is);
   }
@@ -148,19 +177,30 @@ module _ (s s' : Option Tree) (table table' : ConfTable) (A A' : List Entry) (t'
     placed = placed;
     size = c.rows.size ∙ st.size ∙ sym c.array.size;
     each = λ j r e is_r is_e. elim (one_or_not j d) as (λ _. RowIs t' table'.rows.items A' j r e) [
-      | inl same ↦ subst (λ j. slice_get table'.rows.items j ≡ Some r → slice_get A' j ≡ Some e → RowIs t' table'.rows.items A' j r e) (sym same)
-          (λ is_r is_e. subst (λ r. RowIs t' table'.rows.items A' d r e) (some_same c.in_dir.row_now is_r) (subst (λ e. RowIs t' table'.rows.items A' d c.in_dir.row' e) (some_same c.in_dir.entry_now is_e) at_dir)) is_r is_e
+      | inl same ↦ subst (λ j. slice_get table'.rows.items j ≡ Some r → slice_get A' j ≡ Some e →
+          RowIs t' table'.rows.items A' j r e) (sym same)
+          (λ is_r is_e. subst (λ r. RowIs t' table'.rows.items A' d r e) (some_same c.in_dir.row_now is_r)
+          (subst (λ e. RowIs t' table'.rows.items A' d c.in_dir.row' e)
+          (some_same c.in_dir.entry_now is_e) at_dir)) is_r is_e
       | inr not_d ↦ elim (one_or_not j i) as (λ _. RowIs t' table'.rows.items A' j r e) [
-        | inl same ↦ subst (λ j. slice_get table'.rows.items j ≡ Some r → slice_get A' j ≡ Some e → RowIs t' table'.rows.items A' j r e) (sym same)
-            (λ is_r is_e. subst (λ r. RowIs t' table'.rows.items A' i r e) (some_same c.row_now is_r) (subst (λ e. RowIs t' table'.rows.items A' i c.row' e) (some_same c.entry_now is_e) at_object)) is_r is_e
-        | inr not_i ↦ other j r e not_d not_i is_e (sym (c.rows.others j not_d not_i) ∙ is_r) (sym (c.array.others j not_d not_i) ∙ is_e)
+        | inl same ↦ subst (λ j. slice_get table'.rows.items j ≡ Some r → slice_get A' j ≡ Some e →
+            RowIs t' table'.rows.items A' j r e) (sym same)
+            (λ is_r is_e. subst (λ r. RowIs t' table'.rows.items A' i r e) (some_same c.row_now is_r)
+            (subst (λ e. RowIs t' table'.rows.items A' i c.row' e)
+            (some_same c.entry_now is_e) at_object)) is_r is_e
+        | inr not_i ↦ other j r e not_d not_i is_e (sym (c.rows.others j not_d not_i) ∙ is_r)
+            (sym (c.array.others j not_d not_i) ∙ is_e)
       ]
     ];
   }
     where
-      other : (j : ℕ) (r : ConfEntry) (e : Entry) → j ≢ d → j ≢ i → slice_get A' j ≡ Some e → slice_get table.rows.items j ≡ Some r → slice_get A j ≡ Some e → RowIs t' table'.rows.items A' j r e
+      other : (j : ℕ) (r : ConfEntry) (e : Entry) → j ≢ d → j ≢ i → slice_get A' j ≡ Some e →
+          slice_get table.rows.items j ≡ Some r → slice_get A j ≡ Some e → RowIs t' table'.rows.items A' j r e
       other j r e not_d not_i is_e' is_r is_e = row_frame t t' table.rows.items table'.rows.items r
           (λ q is.
           let at_j : handle_at table.rows.items j ≡ Some q = handle_of_row table.rows.items j r is_r ∙ is in
-          c.nodes q (λ e. not_i (one_row t table st.placed h j i (at_j ∙ ap Some e) at_i)) (λ e. not_d (one_row t table st.placed dh j d (at_j ∙ ap Some e) at_d)))
-          A A' j e (λ x row is q at. led j x row (ap (λ e. row_of x (names_of e)) (entry_at-some A' j e is_e') ∙ is) q at) (λ _ p h. (h.0, λ ne. lead_still p j not_i (h.1 ne))) (st.each j r e is_r is_e)
+          c.nodes q (λ e. not_i (one_row t table st.placed h j i (at_j ∙ ap Some e) at_i))
+          (λ e. not_d (one_row t table st.placed dh j d (at_j ∙ ap Some e) at_d)))
+          A A' j e (λ x row is q at. led j x row
+          (ap (λ e. row_of x (names_of e)) (entry_at-some A' j e is_e') ∙ is) q at)
+          (λ _ p h. (h.0, λ ne. lead_still p j not_i (h.1 ne))) (st.each j r e is_r is_e)

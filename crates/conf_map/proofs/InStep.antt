@@ -15,12 +15,14 @@ use Rattle.conf_map.specs.Tables.{index_in, touched, has_handle, IsInStep, IsUns
 
 -- LISTS
 
-pub slice_get-set_same : {X : Type 0} (xs : List X) (i : ℕ) (v w : X) → slice_get xs i ≡ Some w → slice_get (slice_set xs i v) i ≡ Some v
+pub slice_get-set_same : {X : Type 0} (xs : List X) (i : ℕ) (v w : X) → slice_get xs i ≡ Some w →
+    slice_get (slice_set xs i v) i ≡ Some v
 slice_get-set_same [] i v w h = absurd (let bad : None ≡ Some w = h in cc)
 slice_get-set_same (x ∷ xs) zero v w h = refl
 slice_get-set_same (x ∷ xs) (suc i) v w h = slice_get-set_same xs i v w h
 
-pub slice_get-set_other : {X : Type 0} (xs : List X) (i j : ℕ) (v : X) → j ≢ i → slice_get (slice_set xs i v) j ≡ slice_get xs j
+pub slice_get-set_other : {X : Type 0} (xs : List X) (i j : ℕ) (v : X) → j ≢ i →
+    slice_get (slice_set xs i v) j ≡ slice_get xs j
 slice_get-set_other [] i j v ne = refl
 slice_get-set_other (x ∷ xs) zero zero v ne = absurd (ne refl)
 slice_get-set_other (x ∷ xs) zero (suc j) v ne = refl
@@ -48,44 +50,62 @@ handle_or_not (Some x) q = elim (bytes_or_not x q) as (λ _. (Some x ≡ Some q)
 ]
 
 -- what a map answers after a handle was put into it, or taken out
-pub mapped : (o : Option (List ℕ)) (x q : List ℕ) (i : ℕ) (rest got : Option ℕ) → o ≡ Some x → got ≡ cond (is_eq (slice_cmp nat_cmp x q)) (Some i) rest → got ≡ (if has_handle o q then Some i else rest)
-mapped o x q i rest got is g = g ∙ ap (λ b. cond b (Some i) rest) (is_eq-slice_cmp x q ∙ ap (λ o. has_handle o q) (sym is))
+pub mapped : (o : Option (List ℕ)) (x q : List ℕ) (i : ℕ) (rest got : Option ℕ) → o ≡ Some x →
+    got ≡ cond (is_eq (slice_cmp nat_cmp x q)) (Some i) rest → got ≡ (if has_handle o q then Some i else rest)
+mapped o x q i rest got is g = g ∙ ap (λ b. cond b (Some i) rest)
+    (is_eq-slice_cmp x q ∙ ap (λ o. has_handle o q) (sym is))
 
-pub unmapped : (o kept : Option (List ℕ)) (x q : List ℕ) (rest got : Option ℕ) → o ≡ Some x → has_handle kept x ≡ false → got ≡ cond (is_eq (slice_cmp nat_cmp x q)) None rest →
+pub unmapped : (o kept : Option (List ℕ)) (x q : List ℕ) (rest got : Option ℕ) → o ≡ Some x →
+    has_handle kept x ≡ false → got ≡ cond (is_eq (slice_cmp nat_cmp x q)) None rest →
     got ≡ (if has_handle o q && not (has_handle kept q) then None else rest)
-unmapped o kept x q rest got is lacks g = elim (bytes_or_not x q) as (λ _. got ≡ (if has_handle o q && not (has_handle kept q) then None else rest)) [
-  | inl e ↦ g ∙ ap (λ b. cond b None rest) (is_eq-slice_cmp x q ∙ (bytes_eq-Decides x q).1 e) ∙ sym (ap (λ b. cond (b && not (has_handle kept q)) None rest) (has_handle-some o q (is ∙ ap Some e)) ∙ ap (λ b. cond (not b) None rest) (ap (has_handle kept) (sym e) ∙ lacks))
-  | inr ne ↦ g ∙ ap (λ b. cond b None rest) (is_eq-slice_cmp x q ∙ has_handle-other (Some x) q (λ e. ne (let same : Some x ≡ Some q = e in cc))) ∙ sym (ap (λ b. cond (b && not (has_handle kept q)) None rest) (has_handle-other o q (λ e. ne (some_same is e))))
-]
+unmapped o kept x q rest got is lacks g = elim (bytes_or_not x q) as
+    (λ _. got ≡ (if has_handle o q && not (has_handle kept q) then None else rest)) [
+      | inl e ↦ g ∙ ap (λ b. cond b None rest) (is_eq-slice_cmp x q ∙ (bytes_eq-Decides x q).1 e)
+          ∙ sym (ap (λ b. cond (b && not (has_handle kept q)) None rest) (has_handle-some o q (is ∙ ap Some e))
+          ∙ ap (λ b. cond (not b) None rest) (ap (has_handle kept) (sym e) ∙ lacks))
+      | inr ne ↦ g ∙ ap (λ b. cond b None rest)
+          (is_eq-slice_cmp x q ∙ has_handle-other (Some x) q (λ e. ne (let same : Some x ≡ Some q = e in cc)))
+          ∙ sym (ap (λ b. cond (b && not (has_handle kept q)) None rest) (has_handle-other o q (λ e. ne (some_same is e))))
+    ]
 
 -- ONE ROW
 
-module _ (old : ConfTable) (rows' : List ConfEntry) (find : List ℕ → Option ℕ) (i : ℕ) (before after : ConfEntry) (is_row : slice_get old.rows.items i ≡ Some before) (rows : rows' ≡ slice_set old.rows.items i after)
+module _ (old : ConfTable) (rows' : List ConfEntry) (find : List ℕ → Option ℕ) (i : ℕ) (before after : ConfEntry)
+    (is_row : slice_get old.rows.items i ≡ Some before) (rows : rows' ≡ slice_set old.rows.items i after)
     (unshared : IsUnshared old.rows.items i after.handle)
-    (by : (q : List ℕ) → find q ≡ (if has_handle before.handle q && not (has_handle after.handle q) then None else (if has_handle after.handle q then Some i else index_in old q)))
+    (by : (q : List ℕ) → find q ≡
+    (if has_handle before.handle q && not (has_handle after.handle q) then None else
+    (if has_handle after.handle q then Some i else index_in old q)))
     (step : IsInStep old) where
   here : handle_at rows' i ≡ after.handle
-  here = ap (option_and_then (λ (r : ConfEntry). r.handle)) (ap (λ l. slice_get l i) rows ∙ slice_get-set_same old.rows.items i after before is_row)
+  here = ap (option_and_then (λ (r : ConfEntry). r.handle))
+      (ap (λ l. slice_get l i) rows ∙ slice_get-set_same old.rows.items i after before is_row)
 
   was : handle_at old.rows.items i ≡ before.handle
   was = ap (option_and_then (λ (r : ConfEntry). r.handle)) is_row
 
   other : (k : ℕ) → k ≢ i → handle_at rows' k ≡ handle_at old.rows.items k
-  other k ne = ap (option_and_then (λ (r : ConfEntry). r.handle)) (ap (λ l. slice_get l k) rows ∙ slice_get-set_other old.rows.items i k after ne)
+  other k ne = ap (option_and_then (λ (r : ConfEntry). r.handle))
+      (ap (λ l. slice_get l k) rows ∙ slice_get-set_other old.rows.items i k after ne)
 
   has_new : (q : List ℕ) → after.handle ≡ Some q → find q ≡ Some i
-  has_new q is = by q ∙ ap (λ b. cond (has_handle before.handle q && not b) None (cond b (Some i) (index_in old q))) (has_handle-some after.handle q is) ∙ both (has_handle before.handle q)
+  has_new q is = by q ∙ ap (λ b. cond (has_handle before.handle q && not b) None (cond b (Some i) (index_in old q)))
+      (has_handle-some after.handle q is) ∙ both (has_handle before.handle q)
     where
       both : (b : Bool) → cond (b && false) None (Some i) ≡ Some i
       both true = refl
       both false = refl
 
   lost_old : (q : List ℕ) → before.handle ≡ Some q → after.handle ≢ Some q → find q ≡ None
-  lost_old q is ne = by q ∙ ap (λ b. cond (b && not (has_handle after.handle q)) None (cond (has_handle after.handle q) (Some i) (index_in old q))) (has_handle-some before.handle q is)
+  lost_old q is ne = by q
+      ∙ ap (λ b. cond (b && not (has_handle after.handle q)) None
+      (cond (has_handle after.handle q) (Some i) (index_in old q))) (has_handle-some before.handle q is)
       ∙ ap (λ b. cond (not b) None (cond b (Some i) (index_in old q))) (has_handle-other after.handle q ne)
 
   kept : (q : List ℕ) → before.handle ≢ Some q → after.handle ≢ Some q → find q ≡ index_in old q
-  kept q ne ne' = by q ∙ ap (λ b. cond (b && not (has_handle after.handle q)) None (cond (has_handle after.handle q) (Some i) (index_in old q))) (has_handle-other before.handle q ne)
+  kept q ne ne' = by q ∙ ap
+      (λ b. cond (b && not (has_handle after.handle q)) None
+      (cond (has_handle after.handle q) (Some i) (index_in old q))) (has_handle-other before.handle q ne)
       ∙ ap (λ b. cond b (Some i) (index_in old q)) (has_handle-other after.handle q ne')
 
   there : (q : List ℕ) (k : ℕ) → find q ≡ Some k → handle_at rows' k ≡ Some q
@@ -114,13 +134,19 @@ module _ (old : ConfTable) (rows' : List ConfEntry) (find : List ℕ → Option 
 -- OTHER TIMES
 
 -- a row at other times keeps its handle
-pub touched_handles : (rows : List ConfEntry) (d : ℕ) (r : ConfEntry) (t : Time) → slice_get rows d ≡ Some r → (k : ℕ) → handle_at (slice_set rows d (touched t r)) k ≡ handle_at rows k
-touched_handles rows d r t is k = elim (one_or_not k d) as (λ _. handle_at (slice_set rows d (touched t r)) k ≡ handle_at rows k) [
-  | inl e ↦ ap (λ k. handle_at (slice_set rows d (touched t r)) k) e ∙ ap (option_and_then (λ (r : ConfEntry). r.handle)) (slice_get-set_same rows d (touched t r) r is)
-      ∙ sym (ap (option_and_then (λ (r : ConfEntry). r.handle)) is) ∙ sym (ap (handle_at rows) e)
-  | inr ne ↦ ap (option_and_then (λ (r : ConfEntry). r.handle)) (slice_get-set_other rows d k (touched t r) ne)
-]
+pub touched_handles : (rows : List ConfEntry) (d : ℕ) (r : ConfEntry) (t : Time) → slice_get rows d ≡ Some r → (k : ℕ) →
+    handle_at (slice_set rows d (touched t r)) k ≡ handle_at rows k
+touched_handles rows d r t is k = elim (one_or_not k d) as
+    (λ _. handle_at (slice_set rows d (touched t r)) k ≡ handle_at rows k) [
+      | inl e ↦ ap (λ k. handle_at (slice_set rows d (touched t r)) k) e
+          ∙ ap (option_and_then (λ (r : ConfEntry). r.handle)) (slice_get-set_same rows d (touched t r) r is)
+          ∙ sym (ap (option_and_then (λ (r : ConfEntry). r.handle)) is) ∙ sym (ap (handle_at rows) e)
+      | inr ne ↦ ap (option_and_then (λ (r : ConfEntry). r.handle)) (slice_get-set_other rows d k (touched t r) ne)
+    ]
 
-pub touched_in_step : (old : ConfTable) (rows' : List ConfEntry) (find : List ℕ → Option ℕ) → ((q : List ℕ) → find q ≡ index_in old q) → ((k : ℕ) → handle_at rows' k ≡ handle_at old.rows.items k) → IsInStep old →
+pub touched_in_step : (old : ConfTable) (rows' : List ConfEntry) (find : List ℕ → Option ℕ) →
+    ((q : List ℕ) → find q ≡ index_in old q) → ((k : ℕ) → handle_at rows' k ≡ handle_at old.rows.items k) →
+    IsInStep old →
     (q : List ℕ) (k : ℕ) → (find q ≡ Some k) ↔ (handle_at rows' k ≡ Some q)
-touched_in_step old rows' find same handles step q k = ((λ is. handles k ∙ (step q k).0 (sym (same q) ∙ is)), (λ at. same q ∙ (step q k).1 (sym (handles k) ∙ at)))
+touched_in_step old rows' find same handles step q k =
+    ((λ is. handles k ∙ (step q k).0 (sym (same q) ∙ is)), (λ at. same q ∙ (step q k).1 (sym (handles k) ∙ at)))

@@ -23,7 +23,8 @@ use Rattle.conf_map.proofs.SetNames.{dir_handle, dir_handle', dir_number, names_
 pub no_names : (e : Entry) → e.object ≡ Null → names_of e ≡ []
 no_names e is = ap (λ o. names_of (record { generation = e.generation; object = o })) is
 
-pub null_handle : (t : Tree) (rows : List ConfEntry) (r : ConfEntry) (o : Object) → o ≡ Null → IsObject t rows r o → r.handle ≡ None
+pub null_handle : (t : Tree) (rows : List ConfEntry) (r : ConfEntry) (o : Object) → o ≡ Null → IsObject t rows r o →
+    r.handle ≡ None
 null_handle t rows r o is k = subst (IsObject t rows r) is k
 
 pub no_lead : (names : List NameRow) (j : ℕ) → names ≡ [] → LeadTo names j → ⊥
@@ -31,12 +32,15 @@ no_lead names j none l = some_none (ap (row_of l.0) (sym none) ∙ l.2) refl
 
 -- the root and staging are nodes
 pub root_node : (t : Tree) (table : ConfTable) (p : Placed t table) → (n : Node) × (node_at t t.root ≡ Some n)
-root_node t table p = let n = and_then_some (λ (n : Node). names_in n.content) (node_at t t.root) _ p.root_has in (n.0, n.1)
+root_node t table p = let n = and_then_some (λ (n : Node). names_in n.content) (node_at t t.root) _ p.root_has in
+    (n.0, n.1)
 
 pub staging_node : (t : Tree) (table : ConfTable) (p : Placed t table) → (n : Node) × (node_at t p.staging ≡ Some n)
-staging_node t table p = let n = and_then_some (λ (n : Node). names_in n.content) (node_at t p.staging) _ p.staging_has in (n.0, n.1)
+staging_node t table p = let n = and_then_some (λ (n : Node). names_in n.content)
+    (node_at t p.staging) _ p.staging_has in (n.0, n.1)
 
-module _ (s s' : Option Tree) (table table' : ConfTable) (A A' : List Entry) (t' : Tree) (d i : ℕ) (name : List ℕ) (st : Stands s table A) (c : MakesNode st.tree table A d name i t' table' A') where
+module _ (s s' : Option Tree) (table table' : ConfTable) (A A' : List Entry) (t' : Tree) (d i : ℕ) (name : List ℕ)
+    (st : Stands s table A) (c : MakesNode st.tree table A d name i t' table' A') where
   abbrev t : Tree
   t = st.tree
 
@@ -50,14 +54,17 @@ module _ (s s' : Option Tree) (table table' : ConfTable) (A A' : List Entry) (t'
   at_d = dir_handle _ _ _ _ _ _ _ _ _ _ c.in_dir
 
   at_i : handle_at table.rows.items i ≡ None
-  at_i = handle_of_row table.rows.items i c.old_row c.was_row ∙ null_handle t table.rows.items c.old_row c.old_entry.object c.was_null (st.each i c.old_row c.old_entry c.was_row c.was_entry).object
+  at_i = handle_of_row table.rows.items i c.old_row c.was_row
+      ∙ null_handle t table.rows.items c.old_row c.old_entry.object c.was_null
+      (st.each i c.old_row c.old_entry c.was_row c.was_entry).object
 
   now_i : handle_at table'.rows.items i ≡ Some h
   now_i = handle_of_row table'.rows.items i c.row c.row_now ∙ c.row_handle
 
   others : (j : ℕ) → j ≢ i → handle_at table'.rows.items j ≡ handle_at table.rows.items j
   others j ne = elim (one_or_not j d) as (λ _. handle_at table'.rows.items j ≡ handle_at table.rows.items j) [
-    | inl e ↦ subst (λ j. handle_at table'.rows.items j ≡ handle_at table.rows.items j) (sym e) (dir_handle' _ _ _ _ _ _ _ _ _ _ c.in_dir ∙ sym at_d)
+    | inl e ↦ subst (λ j. handle_at table'.rows.items j ≡ handle_at table.rows.items j) (sym e)
+        (dir_handle' _ _ _ _ _ _ _ _ _ _ c.in_dir ∙ sym at_d)
     | inr not_d ↦ same_handle table.rows.items table'.rows.items j (c.rows.others j not_d ne)
   ]
 
@@ -76,17 +83,21 @@ module _ (s s' : Option Tree) (table table' : ConfTable) (A A' : List Entry) (t'
     | inr not_d ↦ ap (option_map (λ (n : Node). n.number)) (c.nodes q ne not_d)
   ]
 
-  had : (q : List ℕ) (n : Node) → q ≢ h → node_at t' q ≡ Some n → (m : Node) × (node_at t q ≡ Some m) × (m.number ≡ n.number)
-  had q n ne at = map_some (λ (n : Node). n.number) (node_at t q) n.number (sym (numbers q ne) ∙ ap (option_map (λ (n : Node). n.number)) at)
+  had : (q : List ℕ) (n : Node) → q ≢ h → node_at t' q ≡ Some n →
+      (m : Node) × (node_at t q ≡ Some m) × (m.number ≡ n.number)
+  had q n ne at = map_some (λ (n : Node). n.number) (node_at t q) n.number
+      (sym (numbers q ne) ∙ ap (option_map (λ (n : Node). n.number)) at)
 
   at_new : (n : Node) → node_at t' h ≡ Some n → n.number ≡ c.node.number
   at_new n at = ap (λ (n : Node). n.number) (some_same at c.node_now)
 
-  all_numbers : (a b : List ℕ) (m n : Node) → node_at t' a ≡ Some m → node_at t' b ≡ Some n → m.number ≡ n.number → a ≡ b
+  all_numbers : (a b : List ℕ) (m n : Node) → node_at t' a ≡ Some m → node_at t' b ≡ Some n → m.number ≡ n.number →
+      a ≡ b
   all_numbers a b m n is_m is_n same = elim (bytes_or_not a h) as (λ _. a ≡ b) [
     | inl e ↦ elim (bytes_or_not b h) as (λ _. a ≡ b) [
       | inl f ↦ e ∙ sym f
-      | inr g ↦ let k = had b n g is_n in absurd (c.new_number b k.0 k.1 (k.2 ∙ sym same ∙ at_new m (ap (node_at t') (sym e) ∙ is_m)))
+      | inr g ↦ let k = had b n g is_n in
+          absurd (c.new_number b k.0 k.1 (k.2 ∙ sym same ∙ at_new m (ap (node_at t') (sym e) ∙ is_m)))
     ]
     | inr g ↦ let k = had a m g is_m in elim (bytes_or_not b h) as (λ _. a ≡ b) [
       | inl f ↦ absurd (c.new_number a k.0 k.1 (k.2 ∙ same ∙ at_new n (ap (node_at t') (sym f) ∙ is_n)))
@@ -94,18 +105,22 @@ module _ (s s' : Option Tree) (table table' : ConfTable) (A A' : List Entry) (t'
     ]
   ]
 
-  by_handle : (q : List ℕ) (k : ℕ) → (ordered.get (slice_cmp nat_cmp) table'.by_handle q ≡ Some k) ↔ (handle_at table'.rows.items k ≡ Some q)
+  by_handle : (q : List ℕ) (k : ℕ) → (ordered.get (slice_cmp nat_cmp) table'.by_handle q ≡ Some k) ↔
+      (handle_at table'.rows.items k ≡ Some q)
   by_handle q k = (there, back)
     where
       there : ordered.get (slice_cmp nat_cmp) table'.by_handle q ≡ Some k → handle_at table'.rows.items k ≡ Some q
       there is = elim (bytes_or_not q h) as (λ _. handle_at table'.rows.items k ≡ Some q) [
-        | inl e ↦ ap (handle_at table'.rows.items) (some_same (ap (ordered.get (slice_cmp nat_cmp) table'.by_handle) (sym e) ∙ is) c.by_handle) ∙ now_i ∙ ap Some (sym e)
+        | inl e ↦ ap (handle_at table'.rows.items)
+            (some_same (ap (ordered.get (slice_cmp nat_cmp) table'.by_handle) (sym e) ∙ is) c.by_handle) ∙ now_i
+            ∙ ap Some (sym e)
         | inr ne ↦ kept k q ((st.placed.by_handle q k).0 (sym (c.by_handles q ne) ∙ is))
       ]
 
       back : handle_at table'.rows.items k ≡ Some q → ordered.get (slice_cmp nat_cmp) table'.by_handle q ≡ Some k
       back is = elim (one_or_not k i) as (λ _. ordered.get (slice_cmp nat_cmp) table'.by_handle q ≡ Some k) [
-        | inl e ↦ ap (ordered.get (slice_cmp nat_cmp) table'.by_handle) (some_same is (ap (handle_at table'.rows.items) e ∙ now_i)) ∙ c.by_handle ∙ ap Some (sym e)
+        | inl e ↦ ap (ordered.get (slice_cmp nat_cmp) table'.by_handle)
+            (some_same is (ap (handle_at table'.rows.items) e ∙ now_i)) ∙ c.by_handle ∙ ap Some (sym e)
         | inr ne ↦
             let was : handle_at table.rows.items k ≡ Some q = sym (others k ne) ∙ is in
             let r = handle_node s table A st k q was in
@@ -124,7 +139,8 @@ module _ (s s' : Option Tree) (table table' : ConfTable) (A A' : List Entry) (t'
       record {
         export = st.placed.export;
         staging = st.placed.staging;
-        root_has = ap (names_at t') c.root ∙ ap (option_and_then (λ (n : Node). names_in n.content)) same_root ∙ st.placed.root_has;
+        root_has = ap (names_at t') c.root ∙ ap (option_and_then (λ (n : Node). names_in n.content)) same_root
+            ∙ st.placed.root_has;
         staging_has = ap (option_and_then (λ (n : Node). names_in n.content)) same_staging ∙ st.placed.staging_has;
         root_apart = λ e. st.placed.root_apart (e ∙ c.root);
         is_export = kept 0 st.placed.export st.placed.is_export;
@@ -137,45 +153,77 @@ module _ (s s' : Option Tree) (table table' : ConfTable) (A A' : List Entry) (t'
       apart : (k : ℕ) (q : List ℕ) → handle_at table'.rows.items k ≡ Some q → (q ≢ t'.root) × (q ≢ st.placed.staging)
       apart k q is = elim (one_or_not k i) as (λ _. (q ≢ t'.root) × (q ≢ st.placed.staging)) [
         | inl e ↦
-            let q_is : q ≡ h = some_same is (ap (handle_at table'.rows.items) e ∙ now_i) in
-            ((λ x. let r = root_node t table st.placed in was_node t.root r.0 r.1 (sym c.root ∙ sym x ∙ q_is)), (λ x. let g = staging_node t table st.placed in was_node st.placed.staging g.0 g.1 (sym x ∙ q_is)))
+            let q_is : q ≡ h = some_same is (ap (handle_at table'.rows.items) e ∙ now_i) in (
+              (λ x. let r = root_node t table st.placed in was_node t.root r.0 r.1 (sym c.root ∙ sym x ∙ q_is)),
+              (λ x. let g = staging_node t table st.placed in was_node st.placed.staging g.0 g.1 (sym x ∙ q_is)),
+            )
         | inr ne ↦ let x = st.placed.apart k q (sym (others k ne) ∙ is) in ((λ e. x.0 (e ∙ c.root)), x.1)
       ]
 
-      covered : (q : List ℕ) (n : Node) → node_at t' q ≡ Some n → (q ≡ t'.root) ⊎ ((q ≡ st.placed.staging) ⊎ ((k : ℕ) × (handle_at table'.rows.items k ≡ Some q)))
-      covered q n is = elim (bytes_or_not q h) as (λ _. (q ≡ t'.root) ⊎ ((q ≡ st.placed.staging) ⊎ ((k : ℕ) × (handle_at table'.rows.items k ≡ Some q)))) [
-        | inl e ↦ inr (inr (i, now_i ∙ ap Some (sym e)))
-        | inr ne ↦ let m = had q n ne is in elim (st.placed.covered q m.0 m.1) as (λ _. (q ≡ t'.root) ⊎ ((q ≡ st.placed.staging) ⊎ ((k : ℕ) × (handle_at table'.rows.items k ≡ Some q)))) [
-          | inl e ↦ inl (e ∙ sym c.root)
-          | inr x ↦ inr (elim x as (λ _. (q ≡ st.placed.staging) ⊎ ((k : ℕ) × (handle_at table'.rows.items k ≡ Some q))) [ inl e ↦ inl e | inr y ↦ inr (y.0, kept y.0 q y.1) ])
-        ]
-      ]
+      covered : (q : List ℕ) (n : Node) → node_at t' q ≡ Some n →
+          (q ≡ t'.root) ⊎ ((q ≡ st.placed.staging) ⊎ ((k : ℕ) × (handle_at table'.rows.items k ≡ Some q)))
+      covered q n is = elim (bytes_or_not q h) as
+          (λ _. (q ≡ t'.root) ⊎ ((q ≡ st.placed.staging) ⊎ ((k : ℕ) × (handle_at table'.rows.items k ≡ Some q)))) [
+            | inl e ↦ inr (inr (i, now_i ∙ ap Some (sym e)))
+            | inr ne ↦ let m = had q n ne is in elim (st.placed.covered q m.0 m.1) as
+                (λ _. (q ≡ t'.root) ⊎ ((q ≡ st.placed.staging) ⊎ ((k : ℕ) × (handle_at table'.rows.items k ≡ Some q)))) [
+                  | inl e ↦ inl (e ∙ sym c.root)
+                  | inr x ↦ inr (elim x as
+                      (λ _. (q ≡ st.placed.staging) ⊎
+                      ((k : ℕ) × (handle_at table'.rows.items k ≡ Some q))) [
+                        | inl e ↦ inl e
+                        | inr y ↦ inr
+                            (y.0, kept y.0 q y.1)
+                      ])
+                ]
+          ]
 
   lead_still : (p j : ℕ) → LeadTo (names_of (entry_at A p)) j → LeadTo (names_of (entry_at A' p)) j
   lead_still p j l = elim (one_or_not p d) as (λ _. LeadTo (names_of (entry_at A' p)) j) [
-    | inl e ↦ subst (λ names. LeadTo names j) (sym (ap (λ p. names_of (entry_at A' p)) e ∙ names_after _ _ _ _ _ _ _ _ _ _ c.in_dir))
-        (lead_on _ _ _ _ _ _ _ _ _ _ c.in_dir j (λ row is _. some_none is c.was_new) (subst (λ names. LeadTo names j) (ap (λ p. names_of (entry_at A p)) e ∙ names_before _ _ _ _ _ _ _ _ _ _ c.in_dir) l))
+    | inl e ↦ subst (λ names. LeadTo names j)
+        (sym (ap (λ p. names_of (entry_at A' p)) e ∙ names_after _ _ _ _ _ _ _ _ _ _ c.in_dir))
+        (lead_on _ _ _ _ _ _ _ _ _ _ c.in_dir j (λ row is _. some_none is c.was_new)
+        (subst (λ names. LeadTo names j)
+        (ap (λ p. names_of (entry_at A p)) e ∙ names_before _ _ _ _ _ _ _ _ _ _ c.in_dir) l))
     | inr not_d ↦ elim (one_or_not p i) as (λ _. LeadTo (names_of (entry_at A' p)) j) [
-      | inl e ↦ absurd (no_lead (names_of (entry_at A p)) j (ap (λ p. names_of (entry_at A p)) e ∙ ap names_of (entry_at-some A i c.old_entry c.was_entry) ∙ no_names c.old_entry c.was_null) l)
-      | inr not_i ↦ subst (λ names. LeadTo names j) (sym (ap names_of (same_entry A' A p (c.array.others p not_d not_i)))) l
+      | inl e ↦ absurd (no_lead (names_of (entry_at A p)) j
+          (ap (λ p. names_of (entry_at A p)) e ∙ ap names_of (entry_at-some A i c.old_entry c.was_entry)
+          ∙ no_names c.old_entry c.was_null) l)
+      | inr not_i ↦ subst (λ names. LeadTo names j)
+          (sym (ap names_of (same_entry A' A p (c.array.others p not_d not_i)))) l
     ]
   ]
 
   zero_is_export : i ≢ 0
   zero_is_export e = had_not_i 0 st.placed.export st.placed.is_export (sym e)
 
-  at_dir : RowIs t' table'.rows.items A' d c.in_dir.row' (record { generation = c.in_dir.generation; object = Dir c.in_dir.attr' c.in_dir.names' })
+  at_dir : RowIs t' table'.rows.items A' d c.in_dir.row'
+      (record { generation = c.in_dir.generation; object = Dir c.in_dir.attr' c.in_dir.names' })
   at_dir =
-      let old = st.each d c.in_dir.row (record { generation = c.in_dir.generation; object = Dir c.in_dir.attr c.in_dir.names }) c.in_dir.before.is_row c.in_dir.before.is_entry in
+      let old = st.each d c.in_dir.row
+      (record {
+        generation = c.in_dir.generation;
+        object =
+            Dir c.in_dir.attr c.in_dir.names;
+      }) c.in_dir.before.is_row c.in_dir.before.is_entry in
       let was = old.parent refl in
-      dir_row _ _ _ _ _ _ _ _ _ _ c.in_dir old (λ x row _ _ q at. kept row.index q at) (ap (handle_at table'.rows.items) c.to_index ∙ now_i)
+      dir_row _ _ _ _ _ _ _ _ _ _ c.in_dir old (λ x row _ _ q at. kept row.index q at)
+      (ap (handle_at table'.rows.items) c.to_index ∙ now_i)
       (subst (λ p. IsParent A' p d) (sym c.in_dir.parent) (was.0, λ ne. lead_still c.in_dir.row.parent d (was.1 ne)))
 
   at_object : RowIs t' table'.rows.items A' i c.row c.entry
   at_object = record {
     generation = c.row_generation;
     object = c.object;
-    parent = λ _. subst (λ p. IsParent A' p i) (sym c.row_parent) ((λ e. absurd (zero_is_export e)), (λ _. (name, c.to_row, (ap (row_of name) (names_after _ _ _ _ _ _ _ _ _ _ c.in_dir) ∙ c.in_dir.row_to), c.to_index)));
+    parent = λ _. subst (λ p. IsParent A' p i) (sym c.row_parent) (
+      (λ e. absurd (zero_is_export e)),
+      (λ _. (
+        name,
+        c.to_row,
+        (ap (row_of name) (names_after _ _ _ _ _ _ _ _ _ _ c.in_dir) ∙ c.in_dir.row_to),
+        c.to_index,
+      )),
+    );
   }
 
   -- 3. a name is added, and leads to a new node
@@ -186,20 +234,28 @@ module _ (s s' : Option Tree) (table table' : ConfTable) (A A' : List Entry) (t'
     placed = placed;
     size = c.rows.size ∙ st.size ∙ sym c.array.size;
     each = λ j r e is_r is_e. elim (one_or_not j d) as (λ _. RowIs t' table'.rows.items A' j r e) [
-      | inl same ↦ subst (λ j. slice_get table'.rows.items j ≡ Some r → slice_get A' j ≡ Some e → RowIs t' table'.rows.items A' j r e) (sym same)
-          (λ is_r is_e. subst (λ r. RowIs t' table'.rows.items A' d r e) (some_same c.in_dir.row_now is_r) (subst (λ e. RowIs t' table'.rows.items A' d c.in_dir.row' e) (some_same c.in_dir.entry_now is_e) at_dir)) is_r is_e
+      | inl same ↦ subst (λ j. slice_get table'.rows.items j ≡ Some r → slice_get A' j ≡ Some e →
+          RowIs t' table'.rows.items A' j r e) (sym same)
+          (λ is_r is_e. subst (λ r. RowIs t' table'.rows.items A' d r e) (some_same c.in_dir.row_now is_r)
+          (subst (λ e. RowIs t' table'.rows.items A' d c.in_dir.row' e)
+          (some_same c.in_dir.entry_now is_e) at_dir)) is_r is_e
       | inr not_d ↦ elim (one_or_not j i) as (λ _. RowIs t' table'.rows.items A' j r e) [
-        | inl same ↦ subst (λ j. slice_get table'.rows.items j ≡ Some r → slice_get A' j ≡ Some e → RowIs t' table'.rows.items A' j r e) (sym same)
-            (λ is_r is_e. subst (λ r. RowIs t' table'.rows.items A' i r e) (some_same c.row_now is_r) (subst (λ e. RowIs t' table'.rows.items A' i c.row e) (some_same c.entry_now is_e) at_object)) is_r is_e
-        | inr not_i ↦ other j r e not_d not_i (sym (c.rows.others j not_d not_i) ∙ is_r) (sym (c.array.others j not_d not_i) ∙ is_e)
+        | inl same ↦ subst (λ j. slice_get table'.rows.items j ≡ Some r → slice_get A' j ≡ Some e →
+            RowIs t' table'.rows.items A' j r e) (sym same)
+            (λ is_r is_e. subst (λ r. RowIs t' table'.rows.items A' i r e) (some_same c.row_now is_r)
+            (subst (λ e. RowIs t' table'.rows.items A' i c.row e) (some_same c.entry_now is_e) at_object)) is_r is_e
+        | inr not_i ↦ other j r e not_d not_i (sym (c.rows.others j not_d not_i) ∙ is_r)
+            (sym (c.array.others j not_d not_i) ∙ is_e)
       ]
     ];
   }
     where
-      other : (j : ℕ) (r : ConfEntry) (e : Entry) → j ≢ d → j ≢ i → slice_get table.rows.items j ≡ Some r → slice_get A j ≡ Some e → RowIs t' table'.rows.items A' j r e
+      other : (j : ℕ) (r : ConfEntry) (e : Entry) → j ≢ d → j ≢ i → slice_get table.rows.items j ≡ Some r →
+          slice_get A j ≡ Some e → RowIs t' table'.rows.items A' j r e
       other j r e not_d not_i is_r is_e = row_frame t t' table.rows.items table'.rows.items r
           (λ q is.
           let at_j : handle_at table.rows.items j ≡ Some q = handle_of_row table.rows.items j r is_r ∙ is in
           let n = handle_node s table A st j q at_j in
           c.nodes q (was_node q n.0 n.1) (λ e. not_d (one_row t table st.placed dh j d (at_j ∙ ap Some e) at_d)))
-          A A' j e (λ x row _ q at. kept row.index q at) (λ _ p h. (h.0, λ ne. lead_still p j (h.1 ne))) (st.each j r e is_r is_e)
+          A A' j e (λ x row _ q at. kept row.index q at) (λ _ p h. (h.0, λ ne. lead_still p j (h.1 ne)))
+          (st.each j r e is_r is_e)

@@ -28,17 +28,22 @@ kind_names (BytesOf b) m is = absurd (some_none is refl)
 kind_names (TextOf b) m is = absurd (some_none is refl)
 kind_names (NamesOf k) m is = (k, refl)
 
-kind_content : (rows : List ConfEntry) (g : ℕ) (o : Object) (c : Content) → SameContent rows o c → IsKind (record { generation = g; object = o }) c
+kind_content : (rows : List ConfEntry) (g : ℕ) (o : Object) (c : Content) → SameContent rows o c →
+    IsKind (record { generation = g; object = o }) c
 kind_content rows g Null c k = absurd k
-kind_content rows g (File a b) c k = subst (IsKind (record { generation = g; object = File a b })) (sym k) (record { file = refl; dir = refl; link = refl; size = λ _. refl })
-kind_content rows g (Link a b) c k = subst (IsKind (record { generation = g; object = Link a b })) (sym k) (record { file = refl; dir = refl; link = refl; size = λ _. refl })
+kind_content rows g (File a b) c k = subst (IsKind (record { generation = g; object = File a b })) (sym k)
+    (record { file = refl; dir = refl; link = refl; size = λ _. refl })
+kind_content rows g (Link a b) c k = subst (IsKind (record { generation = g; object = Link a b })) (sym k)
+    (record { file = refl; dir = refl; link = refl; size = λ _. refl })
 kind_content rows g (Dir a names) c k =
     let m = some_and (names_in c) (SameNames rows names) k in
     let n = kind_names c m.0 m.1 in
-    subst (IsKind (record { generation = g; object = Dir a names })) (sym n.1) (record { file = refl; dir = refl; link = refl; size = λ e. absurd (let bad : true ≡ false = e in cc) })
+    subst (IsKind (record { generation = g; object = Dir a names })) (sym n.1)
+    (record { file = refl; dir = refl; link = refl; size = λ e. absurd (let bad : true ≡ false = e in cc) })
 
 -- what is told of a node whose row and content are an entry's
-seen : (t : Tree) (h : List ℕ) (a : NodeAttr) (n : Node) (r : ConfEntry) (e : Entry) → IsAttr t h a n → SameAttr (attr_of e) r n → IsKind e n.content → IsSeen e a
+seen : (t : Tree) (h : List ℕ) (a : NodeAttr) (n : Node) (r : ConfEntry) (e : Entry) → IsAttr t h a n →
+    SameAttr (attr_of e) r n → IsKind e n.content → IsSeen e a
 seen t h a n r e told attr kind = record {
   file = ap is_file_kind told.kind ∙ kind.file;
   dir = ap is_dir_kind told.kind ∙ kind.dir;
@@ -50,11 +55,14 @@ seen t h a n r e told attr kind = record {
 }
 
 -- what is told of a live row's node
-pub object_seen : (s : Option Tree) (table : ConfTable) (A : List Entry) → StandValid s table A → (i : ℕ) (h : List ℕ) (a : NodeAttr) → handle_at table.rows.items i ≡ Some h →
+pub object_seen : (s : Option Tree) (table : ConfTable) (A : List Entry) → StandValid s table A →
+    (i : ℕ) (h : List ℕ) (a : NodeAttr) → handle_at table.rows.items i ≡ Some h →
     ((t : Tree) → s ≡ Some t → IsSomeAnd (node_at t h) (IsAttr t h a)) → IsSeen (entry_at A i) a
 object_seen s table A k i h a is told =
     let e = at_handle s table A k.stands i h is in
     let n = some_and (node_at k.stands.tree h) (IsAttr k.stands.tree h a) (told k.stands.tree k.stands.has_tree) in
     subst (λ e. IsSeen e a) (sym (entry_at-some A i e.2 e.3.is_entry))
-    (seen k.stands.tree h a e.1 e.0 e.2 (subst (IsAttr k.stands.tree h a) (some_same n.1 e.3.is_node) n.2) (same_attr s table A k.stands i h e.0 e.1 e.2 e.3)
-    (kind_content table.rows.items e.2.generation e.2.object e.1.content (same_content s table A k.stands i h e.0 e.1 e.2 e.3)))
+    (seen k.stands.tree h a e.1 e.0 e.2 (subst (IsAttr k.stands.tree h a) (some_same n.1 e.3.is_node) n.2)
+    (same_attr s table A k.stands i h e.0 e.1 e.2 e.3)
+    (kind_content table.rows.items e.2.generation e.2.object e.1.content
+    (same_content s table A k.stands i h e.0 e.1 e.2 e.3)))

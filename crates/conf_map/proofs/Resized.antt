@@ -90,5 +90,6 @@ module _ (s : Option Tree) (table : ConfTable) (A : List Entry) (st : Stands s t
 
       -- they stand for the array with the other bytes
       pub stands_resized : Stands s' table' (set A i (with_bytes f t (entry_at A i)))
-      stands_resized = stands_alike s table A st i h live s' table' (with_bytes f t e) (tree.with_bytes f) (touched t) alike
+      stands_resized = stands_alike s table A st i h live s' table' (with_bytes f t e) (tree.with_bytes f)
+          (touched t) alike
           (λ u is. has ∙ ap (λ x. Some (edited x h (tree.with_bytes f))) (some_same st.has_tree is)) rows by_handle

@@ -1,5 +1,5 @@
 -- What a procedure finds on its way, said of the array (RFC 1094, 2.2).
-use Rattle.std.specs.Prelude.{◌≡◌, ℕ, ◌*◌, if◌then◌else◌, length, List, ◌∷◌, [], ◌++◌, Bool, true, false, Option, Some, None, Result, Ok, Err}
+use Rattle.std.specs.Prelude.{◌≡◌, ℕ, length, List, ◌∷◌, [], ◌++◌, Bool, true, false, Option, Some, None, Result, Ok, Err}
 use Rattle.nfs2_types.specs.declared.fattr.Kind.{Kind}
 use Rattle.nfs2_types.specs.declared.fattr.Kind.TheVariants.{File, Dir, Link}
 use Rattle.nfs2_types.specs.declared.Stat.{Stat}
@@ -30,7 +30,8 @@ is_link_kind File = false
 is_link_kind Dir = false
 is_link_kind Link = true
 
--- what a server tells of an object: its kind, its mode and owners, and how many bytes a file or a link's text has
+-- what a server tells of an object: its kind, its mode and owners, and how many bytes a file or a link's text
+-- has
 pub record IsSeen (e : Entry) (a : NodeAttr) : Type 0 where
   pub file : is_file_kind a.kind ≡ is_file e
   pub dir : is_dir_kind a.kind ≡ is_dir e
@@ -40,22 +41,20 @@ pub record IsSeen (e : Entry) (a : NodeAttr) : Type 0 where
   pub gid : a.gid ≡ (attr_of e).gid
   pub size : is_dir e ≡ false → a.size ≡ length (bytes_of e)
 
--- the bytes that a node uses by its attributes
-abbrev pub bytes_used : NodeAttr → ℕ
-bytes_used a = if is_dir_kind a.kind then 512 * a.size else a.size
+-- FOUND, OR REFUSED
+
+-- what a search comes to: where none of the tests holds it finds what is so, else it gives the status of the
+-- first
+pub record Finds {X : Type 0} (tests : List Refusal) (IsFound : X → Type 0) (r : Result X Stat) : Type 0 where
+  pub found : (x : X) → r ≡ Ok x → (first_of tests ≡ None) × IsFound x
+  pub refused : (s : Stat) → r ≡ Err s → first_of tests ≡ Some s
 
 -- the handle is that of a directory, and the name is one that may be looked for
 pub record IsDirCall (A : List Entry) (rows : List ConfEntry) (dir name : List ℕ) (d : Located) : Type 0 where
-  pub none : first_of (in_dir A dir name) ≡ None
   pub is_index : live A dir ≡ Some d.index
   pub live : IsLive rows d
   pub is_dir : is_dir (entry_at A d.index) ≡ true
   pub good : is_bad name ≡ false
-
--- the directory of a call, or the status of its first refusal
-abbrev pub DirFound : List Entry → List ConfEntry → List ℕ → List ℕ → Result Located Stat → Type 0
-DirFound A rows dir name (Ok d) = IsDirCall A rows dir name d
-DirFound A rows dir name (Err s) = first_of (in_dir A dir name) ≡ Some s
 
 -- a name of a directory leads to a live object
 pub record IsLed (A : List Entry) (rows : List ConfEntry) (d : ℕ) (name : List ℕ) (at : Located) : Type 0 where
@@ -78,8 +77,3 @@ pub record IsNamed (A : List Entry) (rows : List ConfEntry) (dir name : List ℕ
   pub no_dot : is_dot name ≡ false
   pub good : is_name name ≡ true
   pub found : NameFound A rows n.dir.index name n.at
-
--- where a name leads, or the status of the first refusal
-abbrev pub NamedFound : List Entry → List ConfEntry → List ℕ → List ℕ → Stat → Result Named Stat → Type 0
-NamedFound A rows dir name dot (Ok n) = IsNamed A rows dir name n
-NamedFound A rows dir name dot (Err s) = first_of (name_tests A dir name dot) ≡ Some s

@@ -1,4 +1,5 @@
--- The changes that procedures are made of: what a call of the server, a change of the table and one of the array
+-- The changes that procedures are made of: what a call of the server, a change of the table and one of the
+-- array
 -- have to say, so that tree and table go on standing for the array.
 use Rattle.std.specs.Prelude.{◌≡◌, ◌≢◌, ℕ, List, [], true, Option, Some, None, slice_get, length}
 use Rattle.std.specs.FinMap.{get}
@@ -64,7 +65,8 @@ pub record ChangesNode (t : Tree) (table : ConfTable) (A : List Entry) (i : ℕ)
 
 -- A directory's name leads to another handle, or to none, and its entry's name to the row that goes with it.
 -- Its times may be others.
-pub record SetsName (t : Tree) (table : ConfTable) (A : List Entry) (d : ℕ) (name : List ℕ) (to : Option (List ℕ))
+pub record SetsName (t : Tree) (table : ConfTable) (A : List Entry) (d : ℕ) (name : List ℕ)
+    (to : Option (List ℕ))
     (to_row : Option NameRow) (t' : Tree) (table' : ConfTable) (A' : List Entry) : Type 0 where
   pub handle : List ℕ
   pub row : ConfEntry

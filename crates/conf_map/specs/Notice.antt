@@ -13,11 +13,11 @@ abbrev pub wrap_of : SrvErr → WrapErr
 wrap_of Fault = Down
 wrap_of e = NoMemory
 
--- the count by an answer: the same after Ok, and Down only where it rose
+-- the count by an answer: Down exactly where it rose
 abbrev pub Counted : {T : Type 0} → ℕ → ℕ → Result T WrapErr → Type 0
 Counted before now (Ok x) = now ≡ before
 Counted before now (Err Down) = (before ≤ now) × Rose before now
-Counted before now (Err NoMemory) = before ≤ now
+Counted before now (Err NoMemory) = now ≡ before
 
 -- the limits are as before, and the count never falls
 pub record Watched {T : Type 0} (old new : Server) (r : Result T WrapErr) : Type 0 where

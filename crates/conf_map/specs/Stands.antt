@@ -18,6 +18,8 @@ use Rattle.abs_model.specs.declared.entry.Entry.{Entry}
 use Rattle.abs_model.specs.Objects.{is_dir, names_of, row_of}
 use Rattle.abs_model.specs.Array.{entry_at}
 use Rattle.abs_model.specs.Valid.{Valid}
+use Rattle.conf_map.specs.Tallied.{Tallied}
+use Rattle.conf_map.specs.declared.space.TheConstants.{SPARE_BYTES}
 
 -- the handle in a row
 abbrev pub handle_at : List ConfEntry → ℕ → Option (List ℕ)
@@ -36,7 +38,8 @@ abbrev pub root_names : List ℕ → List ℕ → Names
 root_names export staging = insert (insert empty export_name export) staging_name staging
 
 abbrev pub DifferInNumber : Tree → Type 0
-DifferInNumber t = (p q : List ℕ) (m n : Node) → node_at t p ≡ Some m → node_at t q ≡ Some n → m.number ≡ n.number →
+DifferInNumber t = (p q : List ℕ) (m n : Node) → node_at t p ≡ Some m → node_at t q ≡ Some n →
+    m.number ≡ n.number →
     p ≡ q
 
 -- Besides the root and an empty staging directory, each node has its row, and each handle of a row is
@@ -106,7 +109,8 @@ LeadTo names i = (name : List ℕ) × (row : NameRow) × (row_of name names ≡ 
 abbrev pub IsParent : List Entry → ℕ → ℕ → Type 0
 IsParent A p i = (i ≡ 0 → p ≡ 0) × (i ≢ 0 → LeadTo (names_of (entry_at A p)) i)
 
-pub record RowIs (t : Tree) (rows : List ConfEntry) (A : List Entry) (i : ℕ) (r : ConfEntry) (e : Entry) : Type 0 where
+pub record RowIs (t : Tree) (rows : List ConfEntry) (A : List Entry) (i : ℕ) (r : ConfEntry)
+    (e : Entry) : Type 0 where
   pub generation : r.generation ≡ e.generation
   pub object : IsObject t rows r e.object
   pub parent : is_dir e ≡ true → IsParent A r.parent i
@@ -118,26 +122,32 @@ pub record Stands (server : Option Tree) (table : ConfTable) (A : List Entry) : 
   pub has_tree : server ≡ Some tree
   pub placed : Placed tree table
   pub size : length table.rows.items ≡ length A
-  pub each : (i : ℕ) (r : ConfEntry) (e : Entry) → slice_get table.rows.items i ≡ Some r → slice_get A i ≡ Some e →
+  pub each : (i : ℕ) (r : ConfEntry) (e : Entry) → slice_get table.rows.items i ≡ Some r →
+      slice_get A i ≡ Some e →
       RowIs tree table.rows.items A i r e
 
 -- the limits are within those of the service
 abbrev pub AreWithin : Limits → Type 0
 AreWithin limits = (1 ≤ limits.n) × (limits.n ≤ 4096) × (512 ≤ limits.t) × (limits.t ≤ 16777216)
 
--- they stand for an array that is valid for some limits of the service
+-- They stand for an array that is valid for some limits of the service, and the table's tally of it is right.
 pub record StandValid (server : Option Tree) (table : ConfTable) (A : List Entry) : Type 0 where
   pub limits : Limits
   pub within : AreWithin limits
   pub valid : Valid limits A
   pub stands : Stands server table A
+  pub tallied : Tallied table A
 
--- they stand for an array that is valid for these limits
-pub record StandsValid (limits : Limits) (server : Option Tree) (table : ConfTable) (A : List Entry) : Type 0 where
+-- They stand for an array that is valid for these limits, and the table's tally of it is right.
+pub record StandsValid (limits : Limits) (server : Option Tree) (table : ConfTable)
+    (A : List Entry) : Type 0 where
   pub valid : Valid limits A
   pub stands : Stands server table A
+  pub tallied : Tallied table A
 
--- a server that can hold every array that is valid for these limits, with the root, staging and one node more
+-- A server that can hold every array that is valid for these limits, with the root, staging, one node more and
+-- spare
+-- bytes.
 pub record HasRoom (limits : Limits) (most : ServerLimits) : Type 0 where
   pub nodes : limits.n + 3 ≤ most.nodes
-  pub bytes : limits.t + 1048576 ≤ most.bytes
+  pub bytes : limits.t + SPARE_BYTES ≤ most.bytes

@@ -1,5 +1,5 @@
 -- Tables by themselves: the look-ups in one, and when its map of handles goes with its rows.
-use Rattle.std.specs.Prelude.{◌≡◌, ◌↔◌, ℕ, ◌-◌, ◌^◌, List, Bool, ◌&&◌, ◌==◌, nat_lt, if◌then◌else◌, is_none, bytes_eq, false, Option, None, Some, slice_get}
+use Rattle.std.specs.Prelude.{◌≡◌, ◌↔◌, ℕ, List, Bool, ◌==◌, if◌then◌else◌, bytes_eq, false, Option, None, Some, slice_get}
 use Rattle.std.specs.Option.{option_and_then, option_map}
 use Rattle.std.specs.Ordering.{nat_cmp}
 use Rattle.std.specs.Cmp.Lexicographic.{slice_cmp}
@@ -14,11 +14,13 @@ use Rattle.conf_map.specs.Stands.{handle_at}
 
 -- the handle in the row of an object, where the row's generation is the object's
 abbrev pub live_in : List ConfEntry → Oid → Option (List ℕ)
-live_in rows o = option_and_then (λ r. if r.generation == o.generation then r.handle else None) (slice_get rows o.index)
+live_in rows o = option_and_then (λ r. if r.generation == o.generation then r.handle else None)
+    (slice_get rows o.index)
 
 -- the row of a handle that names a live object, and that object's node
 abbrev pub located : List ConfEntry → List ℕ → Option Located
-located rows h = option_and_then (λ o. option_map (λ x. record { index = o.index; handle = x }) (live_in rows o))
+located rows h = option_and_then
+    (λ o. option_map (λ x. record { index = o.index; handle = x }) (live_in rows o))
     (oid_in h)
 
 -- a row with its node's handle
@@ -28,10 +30,6 @@ IsLive rows at = handle_at rows at.index ≡ Some at.handle
 -- the row that the map has for a handle
 abbrev pub index_in : ConfTable → List ℕ → Option ℕ
 index_in table h = ordered.get (slice_cmp nat_cmp) table.by_handle h
-
--- a null row whose generation can rise
-abbrev pub is_free_row : ConfEntry → Bool
-is_free_row r = is_none r.handle && nat_lt r.generation (2 ^ 32 - 1)
 
 -- the map holds exactly the pairs of handle and row
 abbrev pub IsInStep : ConfTable → Type 0
@@ -47,14 +45,16 @@ abbrev pub IsUnshared : List ConfEntry → ℕ → Option (List ℕ) → Type 0
 IsUnshared rows index handle = (i : ℕ) (h : List ℕ) → handle ≡ Some h → handle_at rows i ≡ Some h → i ≡ index
 
 -- a row without its handle, which keeps its generation
-abbrev pub null_row : ConfEntry → ConfEntry
-null_row r = record r { handle = None }
+abbrev pub emptied : ConfEntry → ConfEntry
+emptied r = record r { handle = None }
 
 -- a row whose object is written at a moment
 abbrev pub touched : Time → ConfEntry → ConfEntry
 touched t r = record r { mtime = t; ctime = t }
 
--- the rows and the map's pairs are as they were
+-- the rows, the map's pairs and the tally are as they were
 pub record IsSameTable (old new : ConfTable) : Type 0 where
   pub rows : new.rows ≡ old.rows
+  pub used : new.used ≡ old.used
+  pub lowest : new.lowest ≡ old.lowest
   pub by_handle : ordered.IsUnchanged old.by_handle new.by_handle

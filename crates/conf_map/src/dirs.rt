@@ -1,11 +1,12 @@
 //! Directories of calls, and their names.
 
-ghost use Rattle.std.specs.Prelude.{◌≡◌, List, Result, Ok, Err, true, false, IfOk, OnOk};
+ghost use Rattle.std.specs.Prelude.{◌≡◌, List, true, false, IfOk, OnOk};
 ghost use Rattle.nfs2_types.specs.Names.{is_name};
 ghost use Rattle.abs_model.specs.declared.entry.Entry.{Entry};
 ghost use Rattle.abs_model.specs.Array.{entry_at};
+ghost use Rattle.abs_model.specs.Machine.{in_dir as in_dir_tests};
 ghost use Rattle.abs_model.specs.Objects as objects;
-ghost use Rattle.conf_map.specs.Found.{is_dir_kind, DirFound, NameFound};
+ghost use Rattle.conf_map.specs.Found.{Finds, IsDirCall, NameFound};
 ghost use Rattle.conf_map.specs.Notice.{Watched};
 ghost use Rattle.conf_map.specs.Stands.{StandValid};
 ghost use Rattle.conf_map.specs.Tables.{IsLive};
@@ -13,18 +14,8 @@ ghost use Rattle.conf_map.specs.Tables.{IsLive};
 use crate::ask::find;
 use crate::object::object_at;
 use crate::table::{Located, index_of, locate};
-use nfs2_types::{Handle, Kind, Stat, is_bad, stat};
-use server_trait::{ConfTable, NodeAttr, Srv, WrapErr};
-
-/// Whether these are attributes of a directory.
-fn is_dir_attr(attr: &NodeAttr) -> bool
-    ensures { result ≡ is_dir_kind attr.now.kind }
-{
-    match attr.kind {
-        Kind::Dir => true,
-        _ => false,
-    }
-}
+use nfs2_types::{Handle, Stat, is_bad, stat};
+use server_trait::{ConfTable, Srv, WrapErr};
 
 /// Whether a live object is a directory.
 pub fn is_dir(server: &mut Srv, table: &ConfTable, at: &Located) -> Result<bool, WrapErr>
@@ -36,7 +27,7 @@ pub fn is_dir(server: &mut Srv, table: &ConfTable, at: &Located) -> Result<bool,
     ensures watched { Watched (state server.old) (state server.new) result }
 {
     let attr = object_at(server, table, at)?;
-    Ok(is_dir_attr(&attr))
+    Ok(attr.is_dir())
 }
 
 /// The directory of a call on a name in it, or the status of the first refusal: STALE, NOTDIR, ACCES.
@@ -48,7 +39,8 @@ pub fn in_dir(
 ) -> Result<Result<Located, Stat>, WrapErr>
     requires stands { (A : List Entry) × StandValid (state server.old).tree table.now A }
     ensures found { IfOk result (λ r. (A : List Entry) →
-        StandValid (state server.old).tree table.now A → DirFound A table.now.rows.items dir.now name.now r) }
+        StandValid (state server.old).tree table.now A →
+        Finds (in_dir_tests A dir.now name.now) (IsDirCall A table.now.rows.items dir.now name.now) r) }
     ensures same { OnOk result ((state server.new).tree ≡ (state server.old).tree) }
     ensures watched { Watched (state server.old) (state server.new) result }
 {

@@ -1,8 +1,8 @@
 //! Names of calls, and where they lead.
 
-ghost use Rattle.std.specs.Prelude.{◌≡◌, List, Result, Ok, Err, true, nat_le, length, IfOk, OnOk};
+ghost use Rattle.std.specs.Prelude.{◌≡◌, List, true, nat_le, length, IfOk, OnOk};
 ghost use Rattle.abs_model.specs.declared.entry.Entry.{Entry};
-ghost use Rattle.conf_map.specs.Found.{NamedFound};
+ghost use Rattle.conf_map.specs.Found.{Finds, name_tests, IsNamed};
 ghost use Rattle.conf_map.specs.Notice.{Watched};
 ghost use Rattle.conf_map.specs.Stands.{StandValid};
 
@@ -31,7 +31,7 @@ pub fn find_name(
     requires short { nat_le (length name.now) 255 ≡ true }
     ensures found { IfOk result (λ r. (A : List Entry) →
         StandValid (state server.old).tree table.now A →
-        NamedFound A table.now.rows.items dir.now name.now dot r) }
+        Finds (name_tests A dir.now name.now dot) (IsNamed A table.now.rows.items dir.now name.now) r) }
     ensures same { OnOk result ((state server.new).tree ≡ (state server.old).tree) }
     ensures watched { Watched (state server.old) (state server.new) result }
 {

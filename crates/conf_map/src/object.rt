@@ -5,6 +5,7 @@ ghost use Rattle.abs_model.specs.declared.entry.Entry.{Entry};
 ghost use Rattle.abs_model.specs.Array.{entry_at};
 ghost use Rattle.conf_map.specs.Found.{IsSeen};
 ghost use Rattle.conf_map.specs.Notice.{Watched};
+ghost use Rattle.conf_map.specs.Shown.{IsTold};
 ghost use Rattle.conf_map.specs.Stands.{StandValid};
 ghost use Rattle.conf_map.specs.Tables.{IsLive};
 
@@ -18,6 +19,8 @@ pub fn object_at(server: &mut Srv, table: &ConfTable, at: &Located) -> Result<No
     requires live { IsLive table.now.rows.items at.now }
     ensures seen { IfOk result (λ a. (A : List Entry) →
         StandValid (state server.old).tree table.now A → IsSeen (entry_at A at.now.index) a) }
+    ensures told { IfOk result (λ a. (A : List Entry) →
+        StandValid (state server.old).tree table.now A → IsTold A table.now.rows.items at.now.index a) }
     ensures same { OnOk result ((state server.new).tree ≡ (state server.old).tree) }
     ensures watched { Watched (state server.old) (state server.new) result }
 {

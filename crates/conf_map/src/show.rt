@@ -6,11 +6,12 @@ ghost use Rattle.abs_model.specs.Array.{fattr, fattr_by};
 ghost use Rattle.abs_model.specs.Machine as machine;
 ghost use Rattle.conf_map.specs.Stands.{StandValid};
 ghost use Rattle.conf_map.specs.Notice.{Watched};
-ghost use Rattle.conf_map.specs.Shown.{attr_by, shown, AreSmall};
+ghost use Rattle.conf_map.specs.Shown.{attr_by, shown, AreSmall, IsTold};
 ghost use Rattle.conf_map.specs.Tables.{IsLive};
 
-use crate::ask::attr_of;
+use crate::object::object_at;
 use crate::table::Located;
+use abs_model::{DIR_MODE, DIR_TYPE, FILE_MODE, FILE_TYPE, LINK_MODE, LINK_TYPE};
 use nfs2_types::{Fattr, Kind, NfsResult, Oid, handle_of};
 use server_trait::{ConfEntry, ConfTable, NodeAttr, Srv, WrapErr};
 
@@ -56,13 +57,26 @@ fn fattr_of(attr: &NodeAttr, row: &ConfEntry, index: u32) -> Fattr
     ensures { result ≡ shown attr.now row.now index }
 {
     match attr.kind {
-        Kind::File => fattr_words(attr, row, 1, 0x8000, attr.links, attr.size, index),
+        Kind::File => fattr_words(
+            attr, row, FILE_TYPE, FILE_MODE, attr.links, attr.size, index,
+        ),
         Kind::Dir => {
             let size = 512 + 32 * attr.size;
-            fattr_words(attr, row, 2, 0x4000, 2 + attr.links, size, index)
+            fattr_words(attr, row, DIR_TYPE, DIR_MODE, 2 + attr.links, size, index)
         }
-        Kind::Link => fattr_words(attr, row, 5, 0xa000, attr.links, attr.size, index),
+        Kind::Link => fattr_words(
+            attr, row, LINK_TYPE, LINK_MODE, attr.links, attr.size, index,
+        ),
     }
+}
+
+/// The attributes of a live object, from what the server told of it.
+pub fn fattr_from(table: &ConfTable, at: &Located, attr: &NodeAttr) -> Fattr
+    requires live { IsLive table.now.rows.items at.now }
+    requires small { AreSmall attr.now at.now.index }
+    ensures { (A : List Entry) → IsTold A table.now.rows.items at.now.index attr.now → result ≡ fattr A at.now.index }
+{
+    fattr_of(attr, &table.rows[at.index as usize], at.index)
 }
 
 /// The attributes of a live object.
@@ -74,9 +88,8 @@ pub fn fattr_at(server: &mut Srv, table: &ConfTable, at: &Located) -> Result<Fat
     ensures same { OnOk result ((state server.new).tree ≡ (state server.old).tree) }
     ensures watched { Watched (state server.old) (state server.new) result }
 {
-    let attr = attr_of(server, &at.handle)?;
-    let fattr = fattr_of(&attr, &table.rows[at.index as usize], at.index);
-    Ok(fattr)
+    let attr = object_at(server, table, at)?;
+    Ok(fattr_from(table, at, &attr))
 }
 
 /// The handle and the attributes of a live object (RFC 1094, 2.3.10: diropres).

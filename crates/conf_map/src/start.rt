@@ -11,10 +11,12 @@ ghost use Rattle.server_trait.specs.Step.{LacksName};
 ghost use Rattle.server_trait.specs.Calls.{Made};
 ghost use Rattle.abs_model.specs.Array.{empty_array};
 ghost use Rattle.conf_map.specs.Stands.{Stands};
+ghost use Rattle.conf_map.specs.Tallied.{Tallied};
 ghost use Rattle.conf_map.specs.Notice.{Watched};
-ghost use Rattle.conf_map.specs.Fresh.{HoldsUpTo, HasRoom, IsEmptyTree, null_row, export_row};
+ghost use Rattle.conf_map.specs.Fresh.{HoldsUpTo, HasRoomForOne, IsEmptyTree, unused_row, export_row};
 
 use crate::failure::broken;
+use crate::space::SPARE_BYTES;
 use nfs2_types::{Handle, Time};
 use server_trait::{ConfEntry, ConfTable, FileServer, Srv, WrapErr};
 use std::alloc::{AllocError, Global};
@@ -31,10 +33,10 @@ struct Place {
 }
 
 /// Makes a directory under a new name, where the server has room for it.
-pub fn make_dir(server: &mut Srv, dir: &Handle, name: &[u8]) -> Result<Handle, WrapErr>
+pub fn make_node_dir(server: &mut Srv, dir: &Handle, name: &[u8]) -> Result<Handle, WrapErr>
     requires lacks { IsSomeAnd (state server.old).tree (λ t. LacksName t dir.now name.now) }
     requires name { is_name name.now ≡ true }
-    requires room { HasRoom (state server.old) }
+    requires room { HasRoomForOne (state server.old) }
     ensures made { IfOk result (λ h. (t : Tree) → (state server.old).tree ≡ Some t →
         Made t dir.now name.now (NamesOf empty) h (state server.new).tree) }
     ensures watched { Watched (state server.old) (state server.new) result }
@@ -83,8 +85,8 @@ fn make_tree(server: &mut Srv) -> Result<Place, WrapErr>
         Err(error) => return Err(broken(error)),
     }
     let root = server.root();
-    let handle = make_dir(server, &root, b"export")?;
-    make_dir(server, &root, b"staging")?;
+    let handle = make_node_dir(server, &root, b"export")?;
+    make_node_dir(server, &root, b"staging")?;
     open_to_all(server, &handle)?;
     let number = number_of(server, &handle)?;
     Ok(Place { handle, number })
@@ -94,11 +96,13 @@ fn make_tree(server: &mut Srv) -> Result<Place, WrapErr>
 fn first_table(alloc: Global, export: Place, n: u32) -> Result<ConfTable, AllocError>
     requires { 1 ≤ n }
     ensures rows { IfOk result (λ table.
-        table.rows.items ≡ export_row export.handle export.number ∷ replicate (n - 1) null_row) }
+        table.rows.items ≡ export_row export.handle export.number ∷ replicate (n - 1) unused_row) }
     ensures by_handle { IfOk result (λ table. (q : List ℕ) →
         ordered.get (slice_cmp nat_cmp) table.by_handle q ≡ cond (is_eq (slice_cmp nat_cmp export.handle q)) (Some 0) None) }
+    ensures used { IfOk result (λ table. table.used ≡ 0) }
+    ensures lowest { IfOk result (λ table. table.lowest ≡ 0) }
 {
-    let null = ConfEntry {
+    let unused = ConfEntry {
         generation: 0,
         handle: None,
         number: 0,
@@ -107,32 +111,34 @@ fn first_table(alloc: Global, export: Place, n: u32) -> Result<ConfTable, AllocE
         mtime: ZERO_TIME,
         ctime: ZERO_TIME,
     };
-    let mut rows = vec![in alloc; null; n as usize]?;
+    let mut rows = vec![in alloc; unused; n as usize]?;
     rows[0] = ConfEntry {
         generation: 1,
         handle: Some(export.handle),
         number: export.number,
-        ..null
+        ..unused
     };
     let mut by_handle = BTreeMap::new(alloc);
     by_handle.insert(export.handle, 0)?;
-    Ok(ConfTable { rows, by_handle })
+    Ok(ConfTable {
+        rows,
+        by_handle,
+        used: 0,
+        lowest: 0,
+    })
 }
 
 /// Wipes a server and makes a table of `n` rows, so that they stand for the array with which a service begins. It asks
-/// nothing of what was there. The server holds at least 1,048,576 bytes, and three nodes more than there are entries.
+/// nothing of what was there. The server holds the spare bytes at least, and three nodes more than there are entries.
 pub fn fresh(alloc: Global, server: &mut Srv, table: &mut ConfTable, n: u32) -> Result<(), WrapErr>
     requires some { 1 ≤ n }
-    requires room { HoldsUpTo (state server.old).limits (n + 3) 1048576 }
+    requires room { HoldsUpTo (state server.old).limits (n + 3) SPARE_BYTES }
     ensures stands { OnOk result (Stands (state server.new).tree table.new (empty_array n)) }
+    ensures tallied { OnOk result (Tallied table.new (empty_array n)) }
     ensures watched { Watched (state server.old) (state server.new) result }
 {
     let export = make_tree(server)?;
-    match first_table(alloc, export, n) {
-        Ok(made) => {
-            *table = made;
-            Ok(())
-        }
-        Err(_) => Err(WrapErr::NoMemory),
-    }
+    let made = first_table(alloc, export, n)?;
+    *table = made;
+    Ok(())
 }

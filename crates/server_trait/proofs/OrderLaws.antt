@@ -53,13 +53,16 @@ module _ (t : Tree) (d name e to_name h : List ℕ) (nd ne : Node) (is_d : node_
             (one q (differ same))
         | inr apart ↦ elim (bytes_or_not q d) as
             (λ _. node_at (edited (edited t d F) e G) q ≡ node_at (edited (edited t e G) d F) q) [
-              | inl x ↦ subst (λ q. node_at (edited (edited t d F) e G) q ≡ node_at (edited (edited t e G) d F) q) (sym x)
+              | inl x ↦ subst (λ q. node_at (edited (edited t d F) e G) q ≡ node_at (edited (edited t e G) d F) q)
+                  (sym x)
                   (node_at-edited_other (edited t d F) e G d apart ∙ node_at-edited_same t d F nd is_d
                   ∙ sym (node_at-edited_same (edited t e G) d F nd (node_at-edited_other t e G d apart ∙ is_d)))
               | inr not_d ↦ elim (bytes_or_not q e) as
                   (λ _. node_at (edited (edited t d F) e G) q ≡ node_at (edited (edited t e G) d F) q) [
-                    | inl x ↦ subst (λ q. node_at (edited (edited t d F) e G) q ≡ node_at (edited (edited t e G) d F) q) (sym x)
-                        (node_at-edited_same (edited t d F) e G ne (node_at-edited_other t d F e (λ y. apart (sym y)) ∙ is_e)
+                    | inl x ↦ subst (λ q. node_at (edited (edited t d F) e G) q ≡ node_at (edited (edited t e G) d F) q)
+                        (sym x)
+                        (node_at-edited_same (edited t d F) e G ne
+                        (node_at-edited_other t d F e (λ y. apart (sym y)) ∙ is_e)
                         ∙ sym (node_at-edited_other (edited t e G) d F e (λ y. apart (sym y))
                         ∙ node_at-edited_same t e G ne is_e))
                     | inr not_e ↦ node_at-edited_other (edited t d F) e G q not_e ∙ node_at-edited_other t d F q not_d

@@ -67,7 +67,8 @@ same_answers m n h = same_map nat_list_cmp_total (slice_cmp-IsAntisymmetric nat_
 put_back : {X : Type 0} (m : ByBytes X) (k : List ℕ) (v : X) → get m k ≡ Some v → insert (remove m k) k v ≡ m
 put_back m k v is = same_answers (insert (remove m k) k v) m
     (λ q. elim (bytes_or_not q k) as (λ _. get (insert (remove m k) k v) q ≡ get m q) [
-      | inl e ↦ subst (λ x. get (insert (remove m k) k v) x ≡ get m x) (sym e) (get-insert_same (remove m k) k v ∙ sym is)
+      | inl e ↦ subst (λ x. get (insert (remove m k) k v) x ≡ get m x) (sym e)
+          (get-insert_same (remove m k) k v ∙ sym is)
       | inr ne ↦ get-insert_other (remove m k) k v q ne ∙ get-remove_other m k q ne
     ])
 

@@ -1,11 +1,6 @@
-mod Additions
-pub mod ByCall
-pub mod ByKind
+mod GivenSizes
 mod Makings
-mod NewNodes
+mod NextGenerations
 mod OldFiles
 mod Refusals
-pub mod Refused
-mod Resizings
 mod Spots
-mod TableRows

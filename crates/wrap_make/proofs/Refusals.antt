@@ -1,5 +1,5 @@
--- The refusals of a call that makes a new object, and its place where none holds.
-use Rattle.std.proofs.Common.{◌≡◌, ℕ, ◌+◌, ◌-◌, ◌≤◌, arith, Bool, true, false, List, [], ◌∷◌, Option, Some, None, Result, Ok, Err, sym, ap, ◌∙◌, subst}
+-- The place of a new object, or the test by which it is refused.
+use Rattle.std.proofs.Common.{◌≡◌, ℕ, ◌+◌, ◌-◌, ◌^◌, ◌<◌, ◌≤◌, arith, length, Bool, true, false, List, [], ◌∷◌, Option, Some, None, Result, Ok, Err, refl, sym, ap, ◌∙◌, subst}
 use Rattle.std.specs.Prelude.{◌||◌, nat_lt, is_none, is_some, position, if◌then◌else◌}
 use Rattle.std.proofs.lemmas.Bool.{ltb-false}
 use Rattle.std.proofs.lemmas.Bool.Decides.{nat_tests}
@@ -11,18 +11,19 @@ use Rattle.server_trait.specs.declared.bench.ConfEntry.{ConfEntry}
 use Rattle.server_trait.specs.declared.bench.ConfTable.{ConfTable}
 use Rattle.abs_model.specs.declared.entry.Entry.{Entry}
 use Rattle.abs_model.specs.Array.{at, free, has_name, used}
-use Rattle.abs_model.specs.Machine.{Refusal, ◌answers◌, no_new, no_room}
+use Rattle.abs_model.specs.Machine.{Refusal, ◌answers◌, first_of, no_new, no_room, new_name_tests}
 use Rattle.abs_model.proofs.Named.{at-live}
 use Rattle.conf_map.specs.Stands.{StandsValid, StandValid, AreWithin}
-use Rattle.conf_map.specs.Tables.{is_free_row}
-use Rattle.conf_map.specs.Found.{NameFound, IsNamed, NamedFound}
+use Rattle.conf_map.specs.Tallied.{is_free_row}
+use Rattle.conf_map.specs.Found.{Finds, name_tests, NameFound, IsNamed}
 use Rattle.conf_map.specs.declared.table.Located.{Located}
 use Rattle.conf_map.specs.declared.name.Named.{Named}
 use Rattle.conf_map.proofs.Shows.{stand_valid}
 use Rattle.conf_map.proofs.Seen.{free_agrees}
-use Rattle.conf_map.proofs.NameTests.{name_first, rest_first}
-use Rattle.wrap_make.specs.declared.place.Place.{Place}
-use Rattle.wrap_make.specs.Places.{refused, IsIndex, IndexFound, IsPlace}
+use Rattle.conf_map.proofs.Finding.{finds_ok, finds_err}
+use Rattle.node_changes.proofs.NamedCalls.{named_refused, named_then}
+use Rattle.node_changes.specs.declared.add.Place.{Place}
+use Rattle.wrap_make.specs.Places.{IsIndex, IndexFound, IsPlace}
 
 -- WHAT STANDS
 
@@ -32,6 +33,14 @@ pub stands_still : (limits : Limits) (s s' : Option Tree) (table : ConfTable) (A
 stands_still limits s s' table A same = subst (λ s. StandsValid limits s table A) (sym same)
 
 -- INDEXES
+
+pub rows_few : (limits : Limits) (s : Option Tree) (table : ConfTable) (A : List Entry) → AreWithin limits →
+    StandsValid limits s table A → length table.rows.items < 2 ^ 32
+rows_few limits s table A within k =
+    let size = k.stands.size in
+    let all = k.valid.size in
+    let most = within.1 in
+    omega (arith, size, all, most)
 
 module _ (limits : Limits) (bytes : ℕ) (s : Option Tree) (table : ConfTable) (A : List Entry)
     (k : StandsValid limits s table A) where
@@ -77,73 +86,61 @@ dir_at A rows dir name n c = at-live A dir n.dir.index c.in_dir.is_index
 
 module _ (limits : Limits) (within : AreWithin limits) (bytes : ℕ) (s : Option Tree) (table : ConfTable)
     (dir name : List ℕ) (r : Result Named Stat)
-    (found : (A : List Entry) → StandValid s table A → NamedFound A table.rows.items dir name EXIST r) where
+    (found : (A : List Entry) → StandValid s table A →
+    Finds (name_tests A dir name EXIST) (IsNamed A table.rows.items dir name) r) where
+  -- what the search of a place comes to
+  abbrev Search : List Entry → Result Place Stat → Type 0
+  Search A = Finds (new_name_tests A limits dir name bytes) (IsPlace A limits table.rows.items dir name bytes)
+
   abbrev later : Bool → Bool → Option Stat
   later has full = if has then Some EXIST else (if full then Some NOSPC else None)
 
   abbrev rest : List Entry → List Refusal
   rest A = (has_name A (at A dir) name answers EXIST) ∷ (no_new A limits bytes answers NOSPC) ∷ []
 
-  named_found : (A : List Entry) → StandsValid limits s table A → NamedFound A table.rows.items dir name EXIST r
+  named_found : (A : List Entry) → StandsValid limits s table A →
+      Finds (name_tests A dir name EXIST) (IsNamed A table.rows.items dir name) r
   named_found A k = found A (stand_valid limits s table A within k)
 
   -- a refusal of the name
   pub name_refused : (A : List Entry) → StandsValid limits s table A → (stat : Stat) → r ≡ Err stat →
-      refused A limits dir name bytes ≡ Some stat
-  name_refused A k stat is = name_first A dir name EXIST (rest A) stat
-      (subst (NamedFound A table.rows.items dir name EXIST) is (named_found A k))
+      Search A (Err stat)
+  name_refused A k stat is = finds_err (named_refused A dir name EXIST (rest A) (named_found A k) is)
 
   module _ (n : Named) (is : r ≡ Ok n) where
     is_named : (A : List Entry) → StandsValid limits s table A → IsNamed A table.rows.items dir name n
-    is_named A k = subst (NamedFound A table.rows.items dir name EXIST) is (named_found A k)
+    is_named A k = ((named_found A k).found n is).1
 
     module _ (A : List Entry) (k : StandsValid limits s table A) where
       there : has_name A n.dir.index name ≡ is_some n.at
       there = name_there A table.rows.items n.dir.index name n.at (is_named A k).found
 
-      after_name : refused A limits dir name bytes ≡ later (is_some n.at) (no_new A limits bytes)
-      after_name = rest_first A dir name EXIST (rest A) table.rows.items n (is_named A k)
+      after_name : (b : Bool) → is_some n.at ≡ b → (full : Bool) → no_new A limits bytes ≡ full →
+          first_of (new_name_tests A limits dir name bytes) ≡ later b full
+      after_name b is_b full is_full = named_then A dir name EXIST (rest A) (named_found A k) is
           ∙ ap (λ d. later (has_name A d name) (no_new A limits bytes))
           (dir_at A table.rows.items dir name n (is_named A k))
-          ∙ ap (λ b. later b (no_new A limits bytes)) there
+          ∙ ap (λ b. later b (no_new A limits bytes)) (there ∙ is_b)
+          ∙ ap (later b) is_full
 
       -- a name that is there is refused
-      pub taken : is_some n.at ≡ true → refused A limits dir name bytes ≡ Some EXIST
-      taken has = after_name ∙ ap (λ b. later b (no_new A limits bytes)) has
+      pub taken : is_some n.at ≡ true → Search A (Err EXIST)
+      taken has = finds_err (after_name true has (no_new A limits bytes) refl)
 
-      module _ (lacks : is_some n.at ≡ false) (s' : Option Tree) (same : s' ≡ s) (index : Option ℕ)
-          (new : (A : List Entry) → StandsValid limits s' table A → IndexFound A limits bytes index) where
+      module _ (lacks : is_some n.at ≡ false) (index : Option ℕ)
+          (new : (s : Option Tree) (A : List Entry) → StandsValid limits s table A →
+          IndexFound A limits bytes index) where
         new_at : IndexFound A limits bytes index
-        new_at = new A (stands_still limits s s' table A same k)
+        new_at = new s A k
 
         -- a name with no index or no space for its object is refused
-        pub space_found : index ≡ None → refused A limits dir name bytes ≡ Some NOSPC
-        space_found none = after_name ∙ ap (λ b. later b (no_new A limits bytes)) lacks
-            ∙ ap (later false) (subst (IndexFound A limits bytes) none new_at)
+        pub space_found : index ≡ None → Search A (Err NOSPC)
+        space_found none = finds_err (after_name false lacks true (subst (IndexFound A limits bytes) none new_at))
 
         -- and any other has its place
-        pub place_found : (i : ℕ) → index ≡ Some i →
-            IsPlace A limits table.rows.items dir name bytes (record { dir = n.dir; index = i })
+        pub place_found : (i : ℕ) → index ≡ Some i → Search A (Ok (record { dir = n.dir; index = i }))
         place_found i at =
             let c = is_named A k in
-            record {
-              in_dir = c.in_dir;
-              no_dot = c.no_dot;
-              good = c.good;
-              lacks = there ∙ lacks;
-              index = subst (IndexFound A limits bytes) at new_at;
-            }
-
--- what has its place is not refused
-pub not_refused : (A : List Entry) (limits : Limits) (rows : List ConfEntry) (dir name : List ℕ) (bytes : ℕ)
-    (p : Place) → IsPlace A limits rows dir name bytes p → refused A limits dir name bytes ≡ None
-not_refused A limits rows dir name bytes p c =
-    let n : Named = record { dir = p.dir; at = None } in
-    let named : IsNamed A rows dir name n =
-    record { in_dir = c.in_dir; no_dot = c.no_dot; good = c.good; found = c.lacks } in
-    rest_first A dir name EXIST ((has_name A (at A dir) name answers EXIST) ∷ (no_new A limits bytes answers NOSPC) ∷ [])
-    rows n named
-    ∙ ap (λ d. if has_name A d name then Some EXIST else (if no_new A limits bytes then Some NOSPC else None))
-    (dir_at A rows dir name n named)
-    ∙ ap (λ b. if b then Some EXIST else (if no_new A limits bytes then Some NOSPC else None)) c.lacks
-    ∙ ap (λ b. if b then Some NOSPC else None) (index_new A limits bytes p.index c.index)
+            let x = subst (IndexFound A limits bytes) at new_at in
+            finds_ok (after_name false lacks false (index_new A limits bytes i x))
+            (record { in_dir = c.in_dir; no_dot = c.no_dot; good = c.good; lacks = there ∙ lacks; index = x })

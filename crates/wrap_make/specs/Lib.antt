@@ -1,5 +1,3 @@
+pub mod Defaults
 pub mod Files
-pub mod Kinds
-pub mod News
-pub mod Objects
 pub mod Places

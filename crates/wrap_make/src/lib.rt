@@ -1,15 +1,15 @@
 //! Procedures that make objects, over a boxed server.
 #![tactic(auto)]
 
-mod calls;
-mod create;
+mod dirs;
+mod files;
+mod links;
 mod make;
-mod make_dir;
-mod node;
-mod object;
+mod new_attr;
 mod place;
 mod resize;
 mod spot;
-mod symlink;
 
-pub use calls::make_proc;
+pub use dirs::make_dir;
+pub use files::create;
+pub use links::symlink;

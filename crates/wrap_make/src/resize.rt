@@ -1,53 +1,36 @@
 //! A size that is given to a file that is there.
 
-ghost use Rattle.std.specs.Prelude.{◌≡◌, ◌++◌, List, Some, OnOk};
+ghost use Rattle.std.specs.Prelude.{◌≡◌, ◌++◌, List, OnOk};
 ghost use Rattle.abs_model.specs.declared.entry.Entry.{Entry};
 ghost use Rattle.abs_model.specs.Array.{changed};
 ghost use Rattle.conf_map.specs.Notice.{Watched, NoticedAll};
 ghost use Rattle.conf_map.specs.Stands.{Stands, StandValid};
 ghost use Rattle.conf_map.specs.Tables.{IsLive};
-ghost use Rattle.wrap_make.specs.Files.{CanResize, resizes, told_sized};
+ghost use Rattle.conf_map.specs.Tallied.{Tallied};
+ghost use Rattle.wrap_make.specs.Files.{CanGive, resizes, told_sized};
 
-use conf_map::{Located, Modify, broken, touch_row};
+use conf_map::{Located, Modify};
 use nfs2_types::Time;
+use node_changes::resize_file;
 use server_trait::{ConfTable, FileServer, Srv, WrapErr};
-
-/// Cuts a file or fills it with zeros, and writes it at a moment.
-fn resize(
-    server: &mut Srv,
-    table: &mut ConfTable,
-    at: &Located,
-    size: u32,
-    time: Time,
-) -> Result<(), WrapErr>
-    requires { (A : List Entry) × CanResize (state server.old) table.old A (Some size) at.now }
-    ensures stands { OnOk result ((A : List Entry) →
-        CanResize (state server.old) table.old A (Some size) at.now →
-        Stands (state server.new).tree table.new (changed (resizes A at.now.index (Some size) time) A)) }
-    ensures live { OnOk result (IsLive table.new.rows.items at.now) }
-    ensures watched { Watched (state server.old) (state server.new) result }
-{
-    match server.set_size(&at.handle, size) {
-        Ok(()) => {}
-        Err(error) => return Err(broken(error)),
-    }
-    touch_row(table, at.index, time);
-    Ok(())
-}
 
 /// Tells of a file and gives it its size, if there is one.
 pub fn tell_and_resize<M: Modify>(
     server: &mut Srv,
     table: &mut ConfTable,
     at: &Located,
+    before: u32,
     size: Option<u32>,
     time: Time,
     saver: &mut M,
 ) -> Result<(), WrapErr>
-    requires { (A : List Entry) × CanResize (state server.old) table.old A size at.now }
+    requires { (A : List Entry) × CanGive (state server.old) table.old A before size at.now }
     ensures stands { OnOk result ((A : List Entry) →
-        CanResize (state server.old) table.old A size at.now →
+        CanGive (state server.old) table.old A before size at.now →
         Stands (state server.new).tree table.new (changed (resizes A at.now.index size time) A)) }
+    ensures tallied { OnOk result ((A : List Entry) →
+        CanGive (state server.old) table.old A before size at.now →
+        Tallied table.new (changed (resizes A at.now.index size time) A)) }
     ensures live { OnOk result (IsLive table.new.rows.items at.now) }
     ensures told { OnOk result (M.told saver.new ≡ M.told saver.old ++ told_sized at.now.index size) }
     ensures noticed { OnOk result ((A : List Entry) → StandValid (state server.old).tree table.old A →
@@ -58,6 +41,6 @@ pub fn tell_and_resize<M: Modify>(
         return Ok(());
     };
     saver.modify(server, table, at.index)?;
-    resize(server, table, at, size, time)?;
+    resize_file(server, table, at, before, size, time)?;
     Ok(())
 }

@@ -1,5 +1,5 @@
 -- The tests of a directory that is to be removed.
-use Rattle.std.proofs.Common.{◌≡◌, ℕ, arith, Bool, true, false, List, [], ◌∷◌, length, Option, Some, None, Result, Ok, IsSomeAnd, inl, inr, refl, sym, ap, ◌∙◌}
+use Rattle.std.proofs.Common.{◌≡◌, ℕ, arith, Bool, true, false, List, [], ◌∷◌, length, Option, Some, None, Result, Ok, Err, IsSomeAnd, inl, inr, refl, sym, ap, ◌∙◌}
 use Rattle.std.specs.Prelude.{not, nat_lt, if◌then◌else◌}
 use Rattle.std.proofs.lemmas.Bool.{cases_Bool, ltb-false}
 use Rattle.nfs2_types.specs.declared.Stat.{Stat}
@@ -14,16 +14,17 @@ use Rattle.abs_model.specs.declared.entry.NameRow.{NameRow}
 use Rattle.abs_model.specs.declared.entry.Entry.{Entry}
 use Rattle.abs_model.specs.Objects.{is_dir, names_of}
 use Rattle.abs_model.specs.Array.{entry_at, at, target}
-use Rattle.abs_model.specs.Machine.{Refusal, ◌answers◌, first_of}
+use Rattle.abs_model.specs.Machine.{Refusal, ◌answers◌, first_of, old_name_tests}
 use Rattle.abs_model.proofs.Facts.{none_holds, dir_is}
 use Rattle.conf_map.specs.Stands.{handle_at, StandValid}
-use Rattle.conf_map.specs.Found.{is_dir_kind}
+use Rattle.conf_map.specs.Found.{is_dir_kind, Finds}
+use Rattle.conf_map.proofs.Finding.{finds_ok, finds_err}
 use Rattle.conf_map.proofs.ObjectChanges.{at_index}
 use Rattle.conf_map.proofs.ObjectFacts.{object_seen}
 use Rattle.conf_map.proofs.Sizes.{size_agrees}
 use Rattle.wrap_names.specs.declared.find.Found.{Found}
-use Rattle.wrap_names.specs.Present.{OldFound, IsOld, dir_tests, no_removal, IsDirName}
-use Rattle.wrap_names.proofs.OldTests.{old_rest, old_at, is_old, still_valid}
+use Rattle.wrap_names.specs.Present.{IsOld, remove_dir_tests, no_removal, IsDirName}
+use Rattle.wrap_names.proofs.OldTests.{old_rest, is_old, still_valid}
 
 -- the tests of what a name leads to
 abbrev pub removal_tests : Entry → List Refusal
@@ -70,7 +71,8 @@ is_true true is = refl
 is_true false is = absurd (let bad : true ≡ false = is in cc)
 
 module _ (s : Option Tree) (table : ConfTable) (dir name : List ℕ) (r : Result Found Stat)
-    (found : (A : List Entry) → StandValid s table A → OldFound A table.rows.items dir name r) (f : Found)
+    (found : (A : List Entry) → StandValid s table A →
+    Finds (old_name_tests A dir name) (IsOld A table.rows.items dir name) r) (f : Found)
     (is : r ≡ Ok f) (s' : Option Tree) (same : s' ≡ s) (a : NodeAttr)
     (told : (t : Tree) → s' ≡ Some t → IsSomeAnd (node_at t f.at.handle) (IsAttr t f.at.handle a))
     (A : List Entry) (k : StandValid s table A) where
@@ -80,29 +82,22 @@ module _ (s : Option Tree) (table : ConfTable) (dir name : List ℕ) (r : Result
   tests_are : no_removal a ≡ first_of (removal_tests (entry_at A f.at.index))
   tests_are = removal_is s' table A (still_valid s s' table A same k) f.at.index f.at.handle a old.led.live told
 
-  all_tests : first_of (dir_tests A dir name) ≡ no_removal a
-  all_tests = old_rest A table.rows.items dir name f old (removal_tests (entry_at A (target A (at A dir) name)))
-      ∙ ap (λ i. first_of (removal_tests (entry_at A i))) (old_at A table.rows.items dir name f old) ∙ sym tests_are
+  all_tests : first_of (remove_dir_tests A dir name) ≡ no_removal a
+  all_tests = old_rest s table dir name r found f is A k (λ i. removal_tests (entry_at A i)) ∙ sym tests_are
 
   -- what is no directory or has names is refused
-  pub removal_refused : (stat : Stat) → no_removal a ≡ Some stat → first_of (dir_tests A dir name) ≡ Some stat
-  removal_refused stat is_no = all_tests ∙ is_no
+  pub removal_refused : (stat : Stat) → no_removal a ≡ Some stat →
+      Finds (remove_dir_tests A dir name) (IsDirName A table.rows.items dir name) (Err stat)
+  removal_refused stat is_no = finds_err (all_tests ∙ is_no)
 
-  -- and a directory without names is found
-  pub removal_found : no_removal a ≡ None → IsDirName A table.rows.items dir name f
+  -- and what is a directory without names is found
+  pub removal_found : no_removal a ≡ None →
+      Finds (remove_dir_tests A dir name) (IsDirName A table.rows.items dir name) (Ok f)
   removal_found none =
-      let all = none_holds (removal_tests (entry_at A f.at.index)) (sym tests_are ∙ none) in
-      record {
+      let e : Entry = entry_at A f.at.index in
+      let tests = none_holds (removal_tests e) (sym tests_are ∙ none) in
+      finds_ok (all_tests ∙ none) (record {
         old = old;
-        is_dir = is_true (is_dir (entry_at A f.at.index)) all.0;
-        empty = empty_is (names_of (entry_at A f.at.index)) all.1.0;
-      }
-
--- the tests of RMDIR where the name leads to a directory without names
-pub dir_passes : (A : List Entry) (rows : List ConfEntry) (dir name : List ℕ) (f : Found) →
-    IsDirName A rows dir name f → first_of (dir_tests A dir name) ≡ None
-dir_passes A rows dir name f c =
-    old_rest A rows dir name f c.old (removal_tests (entry_at A (target A (at A dir) name)))
-    ∙ ap (λ i. first_of (removal_tests (entry_at A i))) (old_at A rows dir name f c.old)
-    ∙ ap (λ b. if not b then Some NOTDIR else by_names (nat_lt 0 (length (names_of (entry_at A f.at.index))))) c.is_dir
-    ∙ ap (λ names. by_names (nat_lt 0 (length names))) c.empty
+        is_dir = is_true (is_dir e) tests.0;
+        empty = empty_is (names_of e) tests.1.0;
+      })

@@ -9,7 +9,7 @@ use Rattle.abs_model.specs.Array.{entry_at, changed}
 use Rattle.abs_model.specs.Machine.{with_names, rows_move}
 use Rattle.abs_model.proofs.RowLists.{row_of-without_same, without_absent, filter_comm}
 use Rattle.conf_map.proofs.ArrayFacts.{eq_is, eq_not}
-use Rattle.wrap_names.proofs.MovedArrays.{comes, moved_by}
+use Rattle.node_changes.proofs.MovedArrays.{comes, moved_by}
 
 -- what has gone can't go again
 without_twice : (name : List ℕ) (rows : List NameRow) → without name (without name rows) ≡ without name rows
@@ -63,11 +63,14 @@ module _ (A : List Entry) (d e j : ℕ) (name : List ℕ) (row : NameRow) (t : T
       changed (rows_move C d name e row t) C ≡ set (changed (rows_move A d name e row t) A) j gone
   join_two here_d here_e =
       moved_by false C d name e row t (eq_not d e two)
-      ∙ ap (λ (z : Entry). set (set C d (with_names (without name) t z)) e (with_names (comes row) t (entry_at C e))) here_d
+      ∙ ap (λ (z : Entry). set (set C d (with_names (without name) t z)) e
+      (with_names (comes row) t (entry_at C e))) here_d
       ∙ ap (λ (z : Entry). set (set C d ed) e (with_names (comes row) t z)) here_e
-      ∙ ap (λ (l : List NameRow). set (set C d ed) e (with_names (λ _. placed row l) t (entry_at A e))) (without_twice row.name (names_of (entry_at A e)))
+      ∙ ap (λ (l : List NameRow). set (set C d ed) e (with_names (λ _. placed row l) t (entry_at A e)))
+      (without_twice row.name (names_of (entry_at A e)))
       ∙ ap (λ (X : List Entry). set X e ee) (set_comm (set A e bare_e) j d gone ed apart)
       ∙ set_comm (set (set A e bare_e) d ed) j e gone ee to_apart
       ∙ ap (λ (X : List Entry). set X j gone)
-      (ap (λ (X : List Entry). set X e ee) (set_comm A e d bare_e ed (λ x. two (sym x))) ∙ set-set (set A d ed) e bare_e ee)
+      (ap (λ (X : List Entry). set X e ee) (set_comm A e d bare_e ed (λ x. two (sym x)))
+      ∙ set-set (set A d ed) e bare_e ee)
       ∙ ap (λ (X : List Entry). set X j gone) (sym (moved_by false A d name e row t (eq_not d e two)))

@@ -1,5 +1,5 @@
 -- REMOVE and RMDIR, from the name that was found to their answers.
-use Rattle.std.proofs.Common.{◌≡◌, ◌≢◌, ℕ, ◌<◌, arith, length, List, [], ◌∷◌, Option, Result, Ok, Err, Some, refl, sym, ap, ◌∙◌, subst}
+use Rattle.std.proofs.Common.{◌≡◌, ◌≢◌, ℕ, ◌<◌, arith, length, List, [], ◌∷◌, Option, Result, Ok, refl, sym, ap, ◌∙◌, subst}
 use Rattle.std.specs.Prelude.{nat_le, if◌then◌else◌}
 use Rattle.nfs2_types.specs.declared.Limits.{Limits}
 use Rattle.nfs2_types.specs.declared.Cred.{Cred}
@@ -12,34 +12,22 @@ use Rattle.abs_model.specs.declared.entry.Entry.{Entry}
 use Rattle.abs_model.specs.declared.entry.Change.{Change}
 use Rattle.abs_model.specs.Objects.{names_of, attr_of, without, with_attr, changed_at, nulled}
 use Rattle.abs_model.specs.Array.{entry_at, at, target}
-use Rattle.abs_model.specs.Machine.{first_of, refusals, to_be, with_names, unlinked}
+use Rattle.abs_model.specs.Machine.{to_be, with_names, unlinked}
 use Rattle.abs_model.specs.Valid.{leads}
 use Rattle.abs_model.proofs.Facts.{no_names, row_is, found_passes, led_is}
 use Rattle.conf_map.specs.Stands.{StandsValid, StandValid, AreWithin, Stands}
+use Rattle.conf_map.specs.Found.{Finds}
+use Rattle.conf_map.proofs.Performed.{Does}
 use Rattle.conf_map.proofs.Shows.{stand_valid, live_within}
 use Rattle.wrap_names.specs.declared.find.Found.{Found}
-use Rattle.wrap_names.specs.Drops.{drops, CanDrop}
-use Rattle.wrap_names.specs.Present.{IsOld, FileFound, IsFileName, DirFound, IsDirName}
-use Rattle.wrap_names.proofs.Doings.{DoesBoth}
-use Rattle.wrap_names.proofs.DirTests.{dir_passes}
-use Rattle.wrap_names.proofs.OldTests.{dir_at, old_at, file_passes}
+use Rattle.node_changes.specs.Drops.{drops, CanDrop}
+use Rattle.wrap_names.specs.Present.{IsOld, remove_tests, IsFileName, remove_dir_tests, IsDirName}
+use Rattle.wrap_names.proofs.OldTests.{dir_at, old_at}
 
 module _ (limits : Limits) (within : AreWithin limits) (table : ConfTable) (A : List Entry) (dir name : List ℕ)
     {s0 : Option Tree} (k : StandsValid limits s0 table A) where
   valid : StandValid s0 table A
   valid = stand_valid limits s0 table A within k
-
-  -- REFUSALS
-
-  pub file_refused : {r : Result Found Stat} {stat : Stat} →
-      ((A : List Entry) → StandValid s0 table A → FileFound A table.rows.items dir name r) → r ≡ Err stat →
-      first_of (refusals A limits (remove dir name)) ≡ Some stat
-  file_refused found is = subst (FileFound A table.rows.items dir name) is (found A valid)
-
-  pub dir_name_refused : {r : Result Found Stat} {stat : Stat} →
-      ((A : List Entry) → StandValid s0 table A → DirFound A table.rows.items dir name r) → r ≡ Err stat →
-      first_of (refusals A limits (remove_dir dir name)) ≡ Some stat
-  dir_name_refused found is = subst (DirFound A table.rows.items dir name) is (found A valid)
 
   -- WHAT IS DONE
 
@@ -56,6 +44,7 @@ module _ (limits : Limits) (within : AreWithin limits) (table : ConfTable) (A : 
       within = within;
       valid = k.valid;
       stands = subst (λ s. Stands s table A) (sym same) k.stands;
+      tallied = k.tallied;
       live = old.in_dir.live;
       is_dir = old.in_dir.is_dir;
       good = old.good;
@@ -76,30 +65,32 @@ module _ (limits : Limits) (within : AreWithin limits) (table : ConfTable) (A : 
 
     -- REMOVE
     module _ {r : Result Found Stat}
-        (found : (A : List Entry) → StandValid s0 table A → FileFound A table.rows.items dir name r)
+        (finds : (A : List Entry) → StandValid s0 table A →
+        Finds (remove_tests A dir name) (IsFileName A table.rows.items dir name) r)
         (is : r ≡ Ok f) where
       file : IsFileName A table.rows.items dir name f
-      file = subst (FileFound A table.rows.items dir name) is (found A valid)
+      file = ((finds A valid).found f is).1
 
       pub file_drop : (s : Server) → s.tree ≡ s0 → CanDrop s table A name f.dir f.at
       file_drop = can_drop file.old (no_names (entry_at A f.at.index) file.no_dir)
 
       pub file_does : (cred : Cred) (t : Time) →
-          DoesBoth A limits cred t (remove dir name) f.dir.index f.at.index (drops A f.dir.index name f.at.index t)
+          Does A limits cred t (remove dir name) (drops A f.dir.index name f.at.index t) (f.dir.index ∷ f.at.index ∷ [])
       file_does cred t = record {
-        none = file_passes A table.rows.items dir name f file;
-        changes_are = ap (λ d. drops A d name (target A (at A dir) name) t)
+        none = ((finds A valid).found f is).0;
+        puts_are = ap (λ d. drops A d name (target A (at A dir) name) t)
             (dir_at A table.rows.items dir name f file.old)
             ∙ ap (λ i. drops A f.dir.index name i t) (old_at A table.rows.items dir name f file.old);
-        told_are = refl;
+        tells_are = refl;
       }
 
     -- RMDIR
     module _ {r : Result Found Stat}
-        (found : (A : List Entry) → StandValid s0 table A → DirFound A table.rows.items dir name r)
+        (finds : (A : List Entry) → StandValid s0 table A →
+        Finds (remove_dir_tests A dir name) (IsDirName A table.rows.items dir name) r)
         (is : r ≡ Ok f) where
       directory : IsDirName A table.rows.items dir name f
-      directory = subst (DirFound A table.rows.items dir name) is (found A valid)
+      directory = ((finds A valid).found f is).1
 
       pub dir_drop : (s : Server) → s.tree ≡ s0 → CanDrop s table A name f.dir f.at
       dir_drop = can_drop directory.old directory.empty
@@ -118,14 +109,14 @@ module _ (limits : Limits) (within : AreWithin limits) (table : ConfTable) (A : 
           (ap (λ n. nat_le n 1) (k.valid.one_name i directory.is_dir (not_root directory.old))))
 
       pub dir_does : (cred : Cred) (t : Time) →
-          DoesBoth A limits cred t (remove_dir dir name) f.dir.index i (drops A f.dir.index name i t)
+          Does A limits cred t (remove_dir dir name) (drops A f.dir.index name i t) (f.dir.index ∷ i ∷ [])
       dir_does cred t = record {
-        none = dir_passes A table.rows.items dir name f directory;
-        changes_are =
+        none = ((finds A valid).found f is).0;
+        puts_are =
             ap (λ d. gone d (target A (at A dir) name) t (nulled (entry_at A (target A (at A dir) name))))
             (dir_at A table.rows.items dir name f directory.old)
             ∙ ap (λ i. gone f.dir.index i t (nulled (entry_at A i)))
             (old_at A table.rows.items dir name f directory.old)
             ∙ ap (gone f.dir.index i t) (last t);
-        told_are = refl;
+        tells_are = refl;
       }

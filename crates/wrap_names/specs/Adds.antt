@@ -37,16 +37,10 @@ object_tests A node dir =
 
 -- a file or a link, beside the handle of a live object
 pub record IsAlone (A : List Entry) (rows : List ConfEntry) (node dir : List ℕ) (o : Located) : Type 0 where
-  pub none : first_of (object_tests A node dir) ≡ None
   pub is_index : array.live A node ≡ Some o.index
   pub live : IsLive rows o
   pub no_dir : is_dir (entry_at A o.index) ≡ false
   pub dir_live : is_stale A dir ≡ false
-
--- the object of a LINK, or the status of the first refusal
-abbrev pub AloneFound : List Entry → List ConfEntry → List ℕ → List ℕ → Result Located Stat → Type 0
-AloneFound A rows node dir (Ok o) = IsAlone A rows node dir o
-AloneFound A rows node dir (Err s) = first_of (object_tests A node dir) ≡ Some s
 
 -- those of a name that has to be new
 abbrev pub new_tests : List Entry → List ℕ → List ℕ → List Refusal
@@ -60,54 +54,10 @@ pub record IsNew (A : List Entry) (rows : List ConfEntry) (dir name : List ℕ) 
   pub good : is_name name ≡ true
   pub lacks : has_name A d.index name ≡ false
 
--- the directory of a new name, or the status of the first refusal
-abbrev pub NewFound : List Entry → List ConfEntry → List ℕ → List ℕ → Result Located Stat → Type 0
-NewFound A rows dir name (Ok d) = IsNew A rows dir name d
-NewFound A rows dir name (Err s) = first_of (new_tests A dir name) ≡ Some s
-
 -- the directory and the object of a LINK that is not refused
-pub record IsLink (A : List Entry) (limits : Limits) (rows : List ConfEntry) (node dir name : List ℕ) (f : Found)
+pub record IsLink (A : List Entry) (limits : Limits) (rows : List ConfEntry) (node dir name : List ℕ)
+    (f : Found)
     : Type 0 where
-  pub none : first_of (refusals A limits (link node dir name)) ≡ None
   pub object : IsAlone A rows node dir f.at
   pub new : IsNew A rows dir name f.dir
-  pub space : array.used A + 512 ≤ limits.t
-
--- these two, or the status of the first refusal
-abbrev pub LinkFound : List Entry → Limits → List ConfEntry → List ℕ → List ℕ → List ℕ → Result Found Stat → Type 0
-LinkFound A limits rows node dir name (Ok f) = IsLink A limits rows node dir name f
-LinkFound A limits rows node dir name (Err s) = first_of (refusals A limits (link node dir name)) ≡ Some s
-
--- WHAT LINK DOES
-
--- a tree that has a file or a link, and a directory which lacks the name, with room for the name
-pub record IsRoomToLink (s : Server) (t : Tree) (node dir name : List ℕ) : Type 0 where
-  pub no_dir : IsNo names_in t node
-  pub lacks : LacksName t dir name
-  pub room : HoldsUpTo s.limits (len t.nodes) (used t + 512)
-
--- the server has such a tree
-abbrev pub HasRoomToLink : Server → List ℕ → List ℕ → List ℕ → Type 0
-HasRoomToLink s node dir name = IsSomeAnd s.tree (λ t. IsRoomToLink s t node dir name)
-
--- a directory gets a name, and the object to which it leads is changed
-abbrev pub names_both : List Entry → ℕ → List ℕ → ℕ → Time → List Change
-names_both A d name i t =
-    to_be d (with_names (placed (row_to name i (entry_at A i).generation)) t (entry_at A d)) ∷
-    to_be i (with_attr (changed_at t (attr_of (entry_at A i))) (entry_at A i)) ∷ []
-
--- A server and a table, which stand for a valid array in which a directory has room for a new name of a file or a link.
-pub record CanLink (server : Server) (table : ConfTable) (A : List Entry) (name : List ℕ) (dir o : Located)
-    : Type 0 where
-  pub limits : Limits
-  pub within : AreWithin limits
-  pub valid : Valid limits A
-  pub stands : Stands server.tree table A
-  pub room : HasRoom limits server.limits
-  pub live : IsLive table.rows.items dir
-  pub is_dir : is_dir (entry_at A dir.index) ≡ true
-  pub good : is_name name ≡ true
-  pub lacks : has_name A dir.index name ≡ false
-  pub object : IsLive table.rows.items o
-  pub no_dir : objects.is_dir (entry_at A o.index) ≡ false
   pub space : array.used A + 512 ≤ limits.t

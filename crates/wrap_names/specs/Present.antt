@@ -8,16 +8,11 @@ use Rattle.server_trait.specs.declared.bench.ConfEntry.{ConfEntry}
 use Rattle.abs_model.specs.declared.entry.Entry.{Entry}
 use Rattle.abs_model.specs.Objects.{is_dir, names_of}
 use Rattle.abs_model.specs.Array.{entry_at, at, has_name, target}
-use Rattle.abs_model.specs.Machine.{Refusal, ◌answers◌, first_of, in_dir}
+use Rattle.abs_model.specs.Machine.{Refusal, ◌answers◌, old_name_tests}
 use Rattle.conf_map.specs.Found.{is_dir_kind, IsDirCall, IsLed}
 use Rattle.wrap_names.specs.declared.find.Found.{Found}
 
 -- NAMES THAT ARE THERE
-
--- the tests of a name that has to be there
-abbrev pub old_tests : List Entry → List ℕ → List ℕ → List Refusal
-old_tests A dir name =
-    in_dir A dir name ++ (is_dot name answers PERM) ∷ (not (has_name A (at A dir) name) answers NOENT) ∷ []
 
 -- the directory of a call, and the object to which its name leads
 pub record IsOld (A : List Entry) (rows : List ConfEntry) (dir name : List ℕ) (f : Found) : Type 0 where
@@ -26,18 +21,11 @@ pub record IsOld (A : List Entry) (rows : List ConfEntry) (dir name : List ℕ) 
   pub good : is_name name ≡ true
   pub led : IsLed A rows f.dir.index name f.at
 
--- an object by its name, or the status of the first refusal
-abbrev pub OldFound : List Entry → List ConfEntry → List ℕ → List ℕ → Result Found Stat → Type 0
-OldFound A rows dir name (Ok f) = IsOld A rows dir name f
-OldFound A rows dir name (Err s) = first_of (old_tests A dir name) ≡ Some s
-
 -- FILES AND LINKS
 
 -- the tests of REMOVE
-abbrev pub file_tests : List Entry → List ℕ → List ℕ → List Refusal
-file_tests A dir name = in_dir A dir name ++
-    (is_dot name answers PERM) ∷
-    (not (has_name A (at A dir) name) answers NOENT) ∷
+abbrev pub remove_tests : List Entry → List ℕ → List ℕ → List Refusal
+remove_tests A dir name = old_name_tests A dir name ++
     (is_dir (entry_at A (target A (at A dir) name)) answers ISDIR) ∷ []
 
 -- a name that leads to no directory
@@ -45,18 +33,11 @@ pub record IsFileName (A : List Entry) (rows : List ConfEntry) (dir name : List 
   pub old : IsOld A rows dir name f
   pub no_dir : is_dir (entry_at A f.at.index) ≡ false
 
--- a file or a link by its name, or the status of the first refusal
-abbrev pub FileFound : List Entry → List ConfEntry → List ℕ → List ℕ → Result Found Stat → Type 0
-FileFound A rows dir name (Ok f) = IsFileName A rows dir name f
-FileFound A rows dir name (Err s) = first_of (file_tests A dir name) ≡ Some s
-
 -- DIRECTORIES
 
 -- the tests of RMDIR
-abbrev pub dir_tests : List Entry → List ℕ → List ℕ → List Refusal
-dir_tests A dir name = in_dir A dir name ++
-    (is_dot name answers PERM) ∷
-    (not (has_name A (at A dir) name) answers NOENT) ∷
+abbrev pub remove_dir_tests : List Entry → List ℕ → List ℕ → List Refusal
+remove_dir_tests A dir name = old_name_tests A dir name ++
     (not (is_dir (entry_at A (target A (at A dir) name))) answers NOTDIR) ∷
     (nat_lt 0 (length (names_of (entry_at A (target A (at A dir) name)))) answers NOTEMPTY) ∷ []
 
@@ -69,8 +50,3 @@ pub record IsDirName (A : List Entry) (rows : List ConfEntry) (dir name : List �
   pub old : IsOld A rows dir name f
   pub is_dir : is_dir (entry_at A f.at.index) ≡ true
   pub empty : names_of (entry_at A f.at.index) ≡ []
-
--- an empty directory by its name, or the status of the first refusal
-abbrev pub DirFound : List Entry → List ConfEntry → List ℕ → List ℕ → Result Found Stat → Type 0
-DirFound A rows dir name (Ok f) = IsDirName A rows dir name f
-DirFound A rows dir name (Err s) = first_of (dir_tests A dir name) ≡ Some s

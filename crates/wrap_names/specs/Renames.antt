@@ -12,38 +12,25 @@ use Rattle.abs_model.specs.declared.entry.Change.{Change}
 use Rattle.abs_model.specs.declared.entry.Entry.{Entry}
 use Rattle.abs_model.specs.Objects.{is_dir, names_of}
 use Rattle.abs_model.specs.Array.{entry_at, changed, live, at, target, has_name, climbs_to}
-use Rattle.abs_model.specs.Machine.{Refusal, ◌answers◌, first_of, is_stale, to_be, unlinked, rows_move, row_to}
+use Rattle.abs_model.specs.Machine.{Refusal, ◌answers◌, first_of, two_dir_tests, two_name_tests, to_be, unlinked, rows_move, row_to}
 use Rattle.abs_model.specs.Valid.{Valid, Walk}
 use Rattle.conf_map.specs.Found.{IsLed, NameFound}
 use Rattle.conf_map.specs.Stands.{Stands, AreWithin}
+use Rattle.conf_map.specs.Tallied.{Tallied}
 use Rattle.conf_map.specs.Tables.{IsLive, touched}
 use Rattle.conf_map.specs.declared.table.Located.{Located}
 use Rattle.wrap_names.specs.declared.ends.Dirs.{Dirs}
 use Rattle.wrap_names.specs.declared.ends.Ends.{Ends}
-use Rattle.wrap_names.specs.Drops.{drops}
-use Rattle.wrap_names.specs.RowParents.{under}
+use Rattle.node_changes.specs.Drops.{drops}
+use Rattle.node_changes.specs.Moves.{name_moves}
 
 -- TESTS
-
--- those of both directories
-abbrev pub dir_tests : List Entry → List ℕ → List ℕ → List Refusal
-dir_tests A from to =
-    (is_stale A from answers STALE) ∷
-    (is_stale A to answers STALE) ∷
-    (not (is_dir (entry_at A (at A from))) answers NOTDIR) ∷
-    (not (is_dir (entry_at A (at A to))) answers NOTDIR) ∷ []
-
--- those of both names
-abbrev pub name_tests : List ℕ → List ℕ → List Refusal
-name_tests name to_name =
-    (is_bad name answers ACCES) ∷
-    (is_bad to_name answers ACCES) ∷
-    (is_dot name || is_dot to_name answers PERM) ∷ []
 
 -- those up to where the first name leads
 abbrev pub end_tests : List Entry → List ℕ → List ℕ → List ℕ → List ℕ → List Refusal
 end_tests A from name to to_name =
-    dir_tests A from to ++ (name_tests name to_name ++ ((not (has_name A (at A from) name) answers NOENT) ∷ []))
+    two_dir_tests A from to
+    ++ (two_name_tests name to_name ++ ((not (has_name A (at A from) name) answers NOENT) ∷ []))
 
 -- those of an object that is replaced, by whether what moves is a directory
 abbrev pub replace_tests : List Entry → Bool → ℕ → List Refusal
@@ -72,18 +59,12 @@ rename_tests A from name to to_name =
 
 -- both directories of a call
 pub record AreDirs (A : List Entry) (rows : List ConfEntry) (from to : List ℕ) (p : Dirs) : Type 0 where
-  pub none : first_of (dir_tests A from to) ≡ None
   pub from_index : live A from ≡ Some p.from.index
   pub to_index : live A to ≡ Some p.to.index
   pub from_live : IsLive rows p.from
   pub to_live : IsLive rows p.to
   pub from_dir : is_dir (entry_at A p.from.index) ≡ true
   pub to_dir : is_dir (entry_at A p.to.index) ≡ true
-
--- the directories, or the status of the first refusal
-abbrev pub DirsFound : List Entry → List ConfEntry → List ℕ → List ℕ → Result Dirs Stat → Type 0
-DirsFound A rows from to (Ok p) = AreDirs A rows from to p
-DirsFound A rows from to (Err s) = first_of (dir_tests A from to) ≡ Some s
 
 -- Two directories, the object to which a name of the first leads, and where a name of the second leads.
 pub record AreLed (A : List Entry) (rows : List ConfEntry) (name to_name : List ℕ) (m : Ends) : Type 0 where
@@ -97,16 +78,11 @@ pub record AreLed (A : List Entry) (rows : List ConfEntry) (name to_name : List 
   pub found : NameFound A rows m.to.index to_name m.over
 
 -- the same, as the call names them
-pub record AreEnds (A : List Entry) (rows : List ConfEntry) (from name to to_name : List ℕ) (m : Ends) : Type 0 where
-  pub none : first_of (end_tests A from name to to_name) ≡ None
+pub record AreEnds (A : List Entry) (rows : List ConfEntry) (from name to to_name : List ℕ)
+    (m : Ends) : Type 0 where
   pub from_index : live A from ≡ Some m.from.index
   pub to_index : live A to ≡ Some m.to.index
   pub led : AreLed A rows name to_name m
-
--- the ends of a move, or the status of the first refusal
-abbrev pub EndsFound : List Entry → List ConfEntry → List ℕ → List ℕ → List ℕ → List ℕ → Result Ends Stat → Type 0
-EndsFound A rows from name to to_name (Ok m) = AreEnds A rows from name to to_name m
-EndsFound A rows from name to to_name (Err s) = first_of (end_tests A from name to to_name) ≡ Some s
 
 -- a name leads to the object at an index
 abbrev pub leads_to : Option Located → ℕ → Bool
@@ -140,26 +116,23 @@ abbrev pub IsReplaced : List Entry → ℕ → Option Located → Type 0
 IsReplaced A i None = ⊤
 IsReplaced A i (Some o) = (o.index ≢ i) × (names_of (entry_at A o.index) ≡ [])
 
--- both names lead to one object, and the call is not refused
+-- both names lead to one object
 pub record IsIdle (A : List Entry) (from name to to_name : List ℕ) : Type 0 where
-  pub none : first_of (rename_tests A from name to to_name) ≡ None
   pub same : (has_name A (at A to) to_name && (target A (at A from) name == target A (at A to) to_name)) ≡ true
 
--- the name moves, and the call is not refused
-pub record IsMove (A : List Entry) (rows : List ConfEntry) (from name to to_name : List ℕ) (m : Ends) : Type 0 where
-  pub none : first_of (rename_tests A from name to to_name) ≡ None
+-- the name moves
+pub record IsMove (A : List Entry) (rows : List ConfEntry) (from name to to_name : List ℕ)
+    (m : Ends) : Type 0 where
   pub from_index : live A from ≡ Some m.from.index
   pub to_index : live A to ≡ Some m.to.index
   pub led : AreLed A rows name to_name m
   pub replaced : IsReplaced A m.at.index m.over
   pub not_below : is_dir (entry_at A m.at.index) ≡ true → climbs_to A m.at.index (length A) m.to.index ≡ false
 
--- what is to be done, or the status of the first refusal
-abbrev pub PlanFound : List Entry → List ConfEntry → List ℕ → List ℕ → List ℕ → List ℕ → Result (Option Ends) Stat →
-    Type 0
-PlanFound A rows from name to to_name (Ok None) = IsIdle A from name to to_name
-PlanFound A rows from name to to_name (Ok (Some m)) = IsMove A rows from name to to_name m
-PlanFound A rows from name to to_name (Err s) = first_of (rename_tests A from name to to_name) ≡ Some s
+-- what is to be done
+abbrev pub IsPlanned : List Entry → List ConfEntry → List ℕ → List ℕ → List ℕ → List ℕ → Option Ends → Type 0
+IsPlanned A rows from name to to_name None = IsIdle A from name to to_name
+IsPlanned A rows from name to to_name (Some m) = IsMove A rows from name to to_name m
 
 -- WHAT IS DONE
 
@@ -171,10 +144,6 @@ clears A e to_name (Some o) t = drops A e to_name o.index t
 -- the array in which the second name is free
 abbrev pub cleared : List Entry → ℕ → List ℕ → Option Located → Time → List Entry
 cleared A e to_name over t = changed (clears A e to_name over t) A
-
--- a name moves, and leads to the same object
-abbrev pub name_moves : List Entry → ℕ → List ℕ → ℕ → List ℕ → ℕ → Time → List Change
-name_moves A d name e to_name i t = rows_move A d name e (row_to to_name i (entry_at A i).generation) t
 
 -- what is replaced loses its name
 abbrev pub unlinks : List Entry → Option Located → Time → List Change
@@ -197,37 +166,15 @@ told_over (Some o) = o.index ∷ []
 abbrev pub told_ends : Ends → List ℕ
 told_ends m = told_dirs m.from.index m.to.index ++ told_over m.over
 
--- A server and a table, which stand for an array in which a name of one directory leads to an object, and another
--- directory, which does not lie below that object, lacks the other name.
-pub record CanMove (server : Server) (table : ConfTable) (A : List Entry) (name to_name : List ℕ) (d e o : Located)
-    : Type 0 where
-  pub stands : Stands server.tree table A
-  pub from_live : IsLive table.rows.items d
-  pub to_live : IsLive table.rows.items e
-  pub from_dir : is_dir (entry_at A d.index) ≡ true
-  pub to_dir : is_dir (entry_at A e.index) ≡ true
-  pub good : is_name name ≡ true
-  pub to_good : is_name to_name ≡ true
-  pub led : IsLed A table.rows.items d.index name o
-  pub lacks : has_name A e.index to_name ≡ false
-  pub not_root : o.index ≢ 0
-  pub apart : d.index ≢ o.index
-  pub not_below : is_dir (entry_at A o.index) ≡ true → (k : ℕ) → Walk A k o.index e.index → ⊥
-
--- A server and a table, which stand for a valid array in which a name can move in place of what the other leads to.
+-- A server and a table, which stand for a valid array in which a name can move in place of what the other leads
+-- to.
 pub record CanReplace (server : Server) (table : ConfTable) (A : List Entry) (name to_name : List ℕ) (m : Ends)
     : Type 0 where
   pub limits : Limits
   pub within : AreWithin limits
   pub valid : Valid limits A
   pub stands : Stands server.tree table A
+  pub tallied : Tallied table A
   pub led : AreLed A table.rows.items name to_name m
   pub replaced : IsReplaced A m.at.index m.over
   pub not_below : is_dir (entry_at A m.at.index) ≡ true → climbs_to A m.at.index (length A) m.to.index ≡ false
-
--- one row has another parent, which is written
-pub record IsPutUnder (old new : ConfTable) (parent i : ℕ) (t : Time) : Type 0 where
-  pub rows : (r s : ConfEntry) → slice_get old.rows.items i ≡ Some r → slice_get old.rows.items parent ≡ Some s →
-      parent ≢ i → new.rows.items ≡ slice_set (slice_set old.rows.items i (under parent r)) parent (touched t s)
-  pub size : length new.rows.items ≡ length old.rows.items
-  pub by_handle : new.by_handle ≡ old.by_handle

@@ -11,7 +11,3 @@ parent_in rows i = unwrap_or (option_map (λ (r : ConfEntry). r.parent) (slice_g
 abbrev pub climbs_in : List ConfEntry → ℕ → ℕ → ℕ → Bool
 climbs_in rows i zero here = here == i
 climbs_in rows i (suc k) here = here == i || climbs_in rows i k (parent_in rows here)
-
--- a row under another parent
-abbrev pub under : ℕ → ConfEntry → ConfEntry
-under p r = record r { parent = p }

@@ -20,7 +20,8 @@ fn parent_of(table: &ConfTable, index: u32) -> u32
     }
 }
 
-/// Whether one comes to a row from another by their parents, in at most as many steps as there are rows.
+/// Whether one comes to a row from another by their parents, in at most as many steps as there are rows. The climb ends
+/// at a row that is its own parent.
 fn climbs(table: &ConfTable, moved: u32, dir: u32) -> bool
     ensures { result ≡ climbs_in table.now.rows.items moved (length table.now.rows.items) dir }
 {
@@ -29,7 +30,11 @@ fn climbs(table: &ConfTable, moved: u32, dir: u32) -> bool
         if here == moved {
             return true;
         }
-        here = parent_of(table, here);
+        let up = parent_of(table, here);
+        if up == here {
+            return false;
+        }
+        here = up;
     }
     here == moved
 }

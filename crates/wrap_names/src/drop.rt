@@ -1,80 +1,18 @@
 //! A name is taken out, and with its last name the object to which it leads.
 
-ghost use Rattle.std.specs.Prelude.{◌≡◌, ◌≢◌, ◌++◌, ◌∷◌, [], ℕ, List, Some, true, IsSomeAnd, OnOk};
-ghost use Rattle.nfs2_types.specs.Names.{is_name};
-ghost use Rattle.server_trait.specs.Tree.{Tree};
-ghost use Rattle.server_trait.specs.Calls.{Removed};
+ghost use Rattle.std.specs.Prelude.{◌≡◌, ◌++◌, ◌∷◌, [], List, OnOk};
 ghost use Rattle.abs_model.specs.declared.entry.Entry.{Entry};
 ghost use Rattle.abs_model.specs.Array.{changed};
-ghost use Rattle.conf_map.specs.Found.{is_dir_kind};
 ghost use Rattle.conf_map.specs.Notice.{Watched, NoticedAll};
-ghost use Rattle.conf_map.specs.Stands.{handle_at, StandValid, Stands};
-ghost use Rattle.wrap_names.specs.Drops.{CanTake, last_name, drops, CanDrop};
+ghost use Rattle.conf_map.specs.Stands.{StandValid, Stands};
+ghost use Rattle.conf_map.specs.Tallied.{Tallied};
+ghost use Rattle.node_changes.specs.Drops.{drops, CanDrop};
 
 use crate::find::Found;
-use crate::rows::{change_rows, clear_rows};
-use conf_map::{Located, Modify, attr_of, broken, tell_both};
-use nfs2_types::{Handle, Kind, Time};
-use server_trait::{ConfTable, FileServer, NodeAttr, Srv, WrapErr};
-
-/// Takes a name out at the server, by the kind of node to which it leads.
-fn take_out(server: &mut Srv, dir: &Handle, name: &[u8], kind: Kind) -> Result<(), WrapErr>
-    requires can { IsSomeAnd (state server.old).tree
-        (λ t. CanTake t dir.now name.now (is_dir_kind kind)) }
-    requires name { is_name name.now ≡ true }
-    ensures taken { OnOk result ((t : Tree) → (state server.old).tree ≡ Some t →
-        Removed t dir.now name.now (state server.new).tree) }
-    ensures watched { Watched (state server.old) (state server.new) result }
-{
-    match kind {
-        Kind::Dir => match server.rmdir(dir, name) {
-            Ok(()) => Ok(()),
-            Err(error) => Err(broken(error)),
-        },
-        _ => match server.remove(dir, name) {
-            Ok(()) => Ok(()),
-            Err(error) => Err(broken(error)),
-        },
-    }
-}
-
-/// Whether a node that loses a name has no other: a directory has one alone.
-fn is_last(attr: &NodeAttr) -> bool
-    ensures { result ≡ last_name attr.now }
-{
-    match attr.kind {
-        Kind::Dir => true,
-        _ => attr.links <= 1,
-    }
-}
-
-/// Takes out a name of a directory, and with its last name the object to which it leads.
-pub fn drop_name(
-    server: &mut Srv,
-    table: &mut ConfTable,
-    dir: &Located,
-    name: &[u8],
-    at: &Located,
-    time: Time,
-) -> Result<(), WrapErr>
-    requires { (A : List Entry) × CanDrop (state server.old) table.old A name.now dir.now at.now }
-    ensures stands { OnOk result ((A : List Entry) →
-        CanDrop (state server.old) table.old A name.now dir.now at.now →
-        Stands (state server.new).tree table.new
-        (changed (drops A dir.now.index name.now at.now.index time) A)) }
-    ensures handles { OnOk result ((i : ℕ) → i ≢ at.now.index →
-        handle_at table.new.rows.items i ≡ handle_at table.old.rows.items i) }
-    ensures watched { Watched (state server.old) (state server.new) result }
-{
-    let attr = attr_of(server, &at.handle)?;
-    take_out(server, &dir.handle, name, attr.kind)?;
-    if is_last(&attr) {
-        clear_rows(table, dir.index, at.index, time);
-        return Ok(());
-    }
-    change_rows(table, dir.index, at.index, time);
-    Ok(())
-}
+use conf_map::{Modify, tell_both};
+use nfs2_types::Time;
+use node_changes::drop_name;
+use server_trait::{ConfTable, Srv, WrapErr};
 
 /// Tells of the directory and of the object, and takes out the name.
 pub fn tell_and_drop<M: Modify>(
@@ -91,6 +29,9 @@ pub fn tell_and_drop<M: Modify>(
         CanDrop (state server.old) table.old A name.now old.now.dir old.now.at →
         Stands (state server.new).tree table.new
         (changed (drops A old.now.dir.index name.now old.now.at.index time) A)) }
+    ensures tallied { OnOk result ((A : List Entry) →
+        CanDrop (state server.old) table.old A name.now old.now.dir old.now.at →
+        Tallied table.new (changed (drops A old.now.dir.index name.now old.now.at.index time) A)) }
     ensures told { OnOk result (M.told saver.new
         ≡ M.told saver.old ++ (old.now.dir.index ∷ old.now.at.index ∷ [])) }
     ensures noticed { OnOk result ((A : List Entry) → StandValid (state server.old).tree table.old A →

@@ -2,10 +2,11 @@
 
 ghost use Rattle.std.specs.Prelude.{◌≡◌, true, nat_le, List, length, IfOk, OnOk};
 ghost use Rattle.abs_model.specs.declared.entry.Entry.{Entry};
-ghost use Rattle.abs_model.specs.Machine.{first_of};
+ghost use Rattle.abs_model.specs.Machine.{first_of, two_dir_tests, two_name_tests};
 ghost use Rattle.conf_map.specs.Notice.{Watched};
 ghost use Rattle.conf_map.specs.Stands.{StandValid};
-ghost use Rattle.wrap_names.specs.Renames.{name_tests, DirsFound, EndsFound};
+ghost use Rattle.wrap_names.specs.Renames.{end_tests, AreDirs, AreEnds};
+ghost use Rattle.conf_map.specs.Found.{Finds};
 
 use conf_map::{Located, follow, is_dir, locate};
 use nfs2_types::{Handle, Stat, is_bad, is_dot, stat};
@@ -36,7 +37,8 @@ fn dirs_of(
 ) -> Result<Result<Dirs, Stat>, WrapErr>
     requires stands { (A : List Entry) × StandValid (state server.old).tree table.now A }
     ensures found { IfOk result (λ r. (A : List Entry) →
-        StandValid (state server.old).tree table.now A → DirsFound A table.now.rows.items from.now to.now r) }
+        StandValid (state server.old).tree table.now A →
+        Finds (two_dir_tests A from.now to.now) (AreDirs A table.now.rows.items from.now to.now) r) }
     ensures same { OnOk result ((state server.new).tree ≡ (state server.old).tree) }
     ensures watched { Watched (state server.old) (state server.new) result }
 {
@@ -60,7 +62,7 @@ fn dirs_of(
 
 /// The status by which either name is refused, if it is: ACCES or PERM.
 fn name_refusal(name: &[u8], to_name: &[u8]) -> Option<Stat>
-    ensures { result ≡ first_of (name_tests name.now to_name.now) }
+    ensures { result ≡ first_of (two_name_tests name.now to_name.now) }
 {
     if is_bad(name) {
         return Some(stat::ACCES);
@@ -92,7 +94,8 @@ pub fn ends_of(
     requires to_short { nat_le (length to_name.now) 255 ≡ true }
     ensures found { IfOk result (λ r. (A : List Entry) →
         StandValid (state server.old).tree table.now A →
-        EndsFound A table.now.rows.items from.now name.now to.now to_name.now r) }
+        Finds (end_tests A from.now name.now to.now to_name.now)
+        (AreEnds A table.now.rows.items from.now name.now to.now to_name.now) r) }
     ensures same { OnOk result ((state server.new).tree ≡ (state server.old).tree) }
     ensures watched { Watched (state server.old) (state server.new) result }
 {

@@ -1,10 +1,12 @@
 //! Names that a call takes out, and where they lead.
 
-ghost use Rattle.std.specs.Prelude.{◌≡◌, List, Result, Ok, Err, true, nat_le, length, IfOk, OnOk};
+ghost use Rattle.std.specs.Prelude.{◌≡◌, List, true, nat_le, length, IfOk, OnOk};
 ghost use Rattle.abs_model.specs.declared.entry.Entry.{Entry};
+ghost use Rattle.abs_model.specs.Machine.{old_name_tests};
 ghost use Rattle.conf_map.specs.Notice.{Watched};
 ghost use Rattle.conf_map.specs.Stands.{StandValid};
-ghost use Rattle.wrap_names.specs.Present.{OldFound};
+ghost use Rattle.conf_map.specs.Found.{Finds};
+ghost use Rattle.wrap_names.specs.Present.{IsOld};
 
 use conf_map::{Located, find_name};
 use nfs2_types::{Handle, Stat, stat};
@@ -28,7 +30,7 @@ pub fn find_old(
     requires short { nat_le (length name.now) 255 ≡ true }
     ensures found { IfOk result (λ r. (A : List Entry) →
         StandValid (state server.old).tree table.now A →
-        OldFound A table.now.rows.items dir.now name.now r) }
+        Finds (old_name_tests A dir.now name.now) (IsOld A table.now.rows.items dir.now name.now) r) }
     ensures same { OnOk result ((state server.new).tree ≡ (state server.old).tree) }
     ensures watched { Watched (state server.old) (state server.new) result }
 {

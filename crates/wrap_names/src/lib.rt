@@ -7,13 +7,11 @@ mod drop;
 mod ends;
 mod find;
 mod link;
-mod move_name;
 mod plan;
 mod remove;
 mod remove_dir;
 mod rename;
 mod replace;
-mod rows;
 mod tell;
 
 pub use calls::names_proc;

@@ -1,22 +1,24 @@
 //! LINK (RFC 1094, 2.2.13).
 
-ghost use Rattle.std.specs.Prelude.{◌≡◌, ◌++◌, ◌∷◌, [], List, Result, Ok, Err, Some, true, nat_le, length, IsSomeAnd, IfOk, OnOk};
+ghost use Rattle.std.specs.Prelude.{◌≡◌, ◌++◌, ◌∷◌, [], List, true, nat_le, length, IfOk, OnOk};
 ghost use Rattle.nfs2_types.specs.Call.{call_fits};
 ghost use Rattle.nfs2_types.specs.Call as calls;
-ghost use Rattle.nfs2_types.specs.Names.{is_name};
-ghost use Rattle.nfs2_types.specs.Times.{is_time};
-ghost use Rattle.server_trait.specs.Tree.{Tree, named};
+ghost use Rattle.nfs2_types.specs.declared.Cred.{Cred};
 ghost use Rattle.abs_model.specs.declared.entry.Entry.{Entry};
 ghost use Rattle.abs_model.specs.Array.{changed};
-ghost use Rattle.abs_model.specs.Machine.{result_of, array_after, told};
-ghost use Rattle.conf_map.specs.Stands.{Stands, StandValid, StandsValid, AreWithin, HasRoom};
+ghost use Rattle.abs_model.specs.Machine.{refusals};
+ghost use Rattle.conf_map.specs.Stands.{Stands, StandValid, StandsValid, AreWithin};
+ghost use Rattle.conf_map.specs.Tallied.{Tallied};
+ghost use Rattle.conf_map.specs.Performs.{CanPerform, Performs};
 ghost use Rattle.conf_map.specs.Notice.{Watched, NoticedAll};
-ghost use Rattle.wrap_names.specs.Adds.{AloneFound, NewFound, LinkFound, HasRoomToLink, names_both, CanLink};
+ghost use Rattle.wrap_names.specs.Adds.{object_tests, new_tests, IsAlone, IsNew, IsLink};
+ghost use Rattle.conf_map.specs.Found.{Finds};
+ghost use Rattle.node_changes.specs.Links.{names_both, CanLink};
 
 use crate::find::Found;
-use crate::rows::change_rows;
-use conf_map::{Located, Modify, broken, find_name, is_dir, locate, no_room, tell_both};
-use nfs2_types::{Cred, Handle, Limits, NfsResult, Stat, Time, stat};
+use conf_map::{Located, Modify, find_name, is_dir, locate, no_room, tell_both};
+use nfs2_types::{Handle, Limits, NfsResult, Stat, Time, stat};
+use node_changes::add_link;
 use server_trait::{ConfTable, FileServer, Srv, WrapErr};
 
 /// The bytes that a name uses.
@@ -33,7 +35,7 @@ fn find_object(
     requires stands { (A : List Entry) × StandValid (state server.old).tree table.now A }
     ensures found { IfOk result (λ r. (A : List Entry) →
         StandValid (state server.old).tree table.now A →
-        AloneFound A table.now.rows.items node.now dir.now r) }
+        Finds (object_tests A node.now dir.now) (IsAlone A table.now.rows.items node.now dir.now) r) }
     ensures same { OnOk result ((state server.new).tree ≡ (state server.old).tree) }
     ensures watched { Watched (state server.old) (state server.new) result }
 {
@@ -60,7 +62,7 @@ fn find_new(
     requires short { nat_le (length name.now) 255 ≡ true }
     ensures found { IfOk result (λ r. (A : List Entry) →
         StandValid (state server.old).tree table.now A →
-        NewFound A table.now.rows.items dir.now name.now r) }
+        Finds (new_tests A dir.now name.now) (IsNew A table.now.rows.items dir.now name.now) r) }
     ensures same { OnOk result ((state server.new).tree ≡ (state server.old).tree) }
     ensures watched { Watched (state server.old) (state server.new) result }
 {
@@ -89,7 +91,8 @@ fn find_link(
     requires short { nat_le (length name.now) 255 ≡ true }
     ensures found { IfOk result (λ r. (A : List Entry) →
         StandsValid limits.now (state server.old).tree table.now A →
-        LinkFound A limits.now table.now.rows.items node.now dir.now name.now r) }
+        Finds (refusals A limits.now (calls.link node.now dir.now name.now))
+        (IsLink A limits.now table.now.rows.items node.now dir.now name.now) r) }
     ensures same { OnOk result ((state server.new).tree ≡ (state server.old).tree) }
     ensures watched { Watched (state server.old) (state server.new) result }
 {
@@ -101,45 +104,10 @@ fn find_link(
         Ok(d) => d,
         Err(refused) => return Ok(Err(refused)),
     };
-    if no_room(server, table, limits, 0, NAME_BYTES)? {
+    if no_room(table, limits, 0, NAME_BYTES) {
         return Ok(Err(stat::NOSPC));
     }
     Ok(Ok(Found { dir: d, at }))
-}
-
-/// Gives a node one name more at the server, which has room for it.
-fn add_name(server: &mut Srv, node: &Handle, dir: &Handle, name: &[u8]) -> Result<(), WrapErr>
-    requires room { HasRoomToLink (state server.old) node.now dir.now name.now }
-    requires name { is_name name.now ≡ true }
-    ensures named { OnOk result ((t : Tree) → (state server.old).tree ≡ Some t →
-        (state server.new).tree ≡ Some (named t dir.now name.now node.now)) }
-    ensures watched { Watched (state server.old) (state server.new) result }
-{
-    match server.link(node, dir, name) {
-        Ok(()) => Ok(()),
-        Err(error) => Err(broken(error)),
-    }
-}
-
-/// Gives an object one name more.
-fn add_link(
-    server: &mut Srv,
-    table: &mut ConfTable,
-    new: &Found,
-    name: &[u8],
-    time: Time,
-) -> Result<(), WrapErr>
-    requires { (A : List Entry)
-        × CanLink (state server.old) table.old A name.now new.now.dir new.now.at }
-    ensures stands { OnOk result ((A : List Entry) →
-        CanLink (state server.old) table.old A name.now new.now.dir new.now.at →
-        Stands (state server.new).tree table.new
-        (changed (names_both A new.now.dir.index name.now new.now.at.index time) A)) }
-    ensures watched { Watched (state server.old) (state server.new) result }
-{
-    add_name(server, &new.at.handle, &new.dir.handle, name)?;
-    change_rows(table, new.dir.index, new.at.index, time);
-    Ok(())
 }
 
 /// Tells of the directory and of the object, and gives it one name more.
@@ -157,6 +125,9 @@ fn tell_and_link<M: Modify>(
         CanLink (state server.old) table.old A name.now new.now.dir new.now.at →
         Stands (state server.new).tree table.new
         (changed (names_both A new.now.dir.index name.now new.now.at.index time) A)) }
+    ensures tallied { OnOk result ((A : List Entry) →
+        CanLink (state server.old) table.old A name.now new.now.dir new.now.at →
+        Tallied table.new (changed (names_both A new.now.dir.index name.now new.now.at.index time) A)) }
     ensures told { OnOk result (M.told saver.new
         ≡ M.told saver.old ++ (new.now.dir.index ∷ new.now.at.index ∷ [])) }
     ensures noticed { OnOk result ((A : List Entry) → StandValid (state server.old).tree table.old A →
@@ -164,7 +135,7 @@ fn tell_and_link<M: Modify>(
     ensures watched { Watched (state server.old) (state server.new) result }
 {
     tell_both(server, table, new.dir.index, new.at.index, saver)?;
-    add_link(server, table, new, name, time)?;
+    add_link(server, table, &new.dir, name, &new.at, time)?;
     Ok(())
 }
 
@@ -173,34 +144,18 @@ pub fn link<M: Modify>(
     server: &mut Srv,
     table: &mut ConfTable,
     limits: &Limits,
-    cred: &Cred,
     time: Time,
     node: &Handle,
     dir: &Handle,
     name: &[u8],
     saver: &mut M,
 ) -> Result<NfsResult, WrapErr>
-    requires stands { (A : List Entry)
-        × StandsValid limits.now (state server.old).tree table.old A }
-    requires within { AreWithin limits.now }
-    requires room { HasRoom limits.now (state server.old).limits }
-    requires time { is_time time ≡ true }
+    requires can { CanPerform limits.now (state server.old) table.old time }
     requires fits { call_fits (calls.link node.now dir.now name.now) ≡ true }
-    ensures answers { IfOk result (λ r. (A : List Entry) →
+    ensures performs { IfOk result (λ r. (A : List Entry) (cred : Cred) →
         StandsValid limits.now (state server.old).tree table.old A →
-        r ≡ result_of A limits.now cred.now time (calls.link node.now dir.now name.now)) }
-    ensures stands { OnOk result ((A : List Entry) →
-        StandsValid limits.now (state server.old).tree table.old A →
-        Stands (state server.new).tree table.new
-        (array_after A limits.now cred.now time (calls.link node.now dir.now name.now))) }
-    ensures told { OnOk result ((A : List Entry) →
-        StandsValid limits.now (state server.old).tree table.old A →
-        M.told saver.new ≡ M.told saver.old
-        ++ told A limits.now cred.now time (calls.link node.now dir.now name.now)) }
-    ensures noticed { OnOk result ((A : List Entry) →
-        StandsValid limits.now (state server.old).tree table.old A →
-        NoticedAll M.noticed A saver.old
-        (told A limits.now cred.now time (calls.link node.now dir.now name.now)) saver.new) }
+        Performs M.told M.noticed limits.now cred time (calls.link node.now dir.now name.now)
+        A r (state server.new).tree table.new saver.old saver.new) }
     ensures watched { Watched (state server.old) (state server.new) result }
 {
     let new = match find_link(server, table, limits, node, dir, name)? {

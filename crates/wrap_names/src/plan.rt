@@ -4,7 +4,8 @@ ghost use Rattle.std.specs.Prelude.{◌≡◌, true, nat_le, List, length, IfOk,
 ghost use Rattle.abs_model.specs.declared.entry.Entry.{Entry};
 ghost use Rattle.conf_map.specs.Notice.{Watched};
 ghost use Rattle.conf_map.specs.Stands.{StandValid};
-ghost use Rattle.wrap_names.specs.Renames.{leads_to, PlanFound};
+ghost use Rattle.wrap_names.specs.Renames.{leads_to, rename_tests, IsPlanned};
+ghost use Rattle.conf_map.specs.Found.{Finds};
 
 use crate::ends::{Ends, ends_of};
 use crate::replace::move_refusal;
@@ -35,7 +36,8 @@ pub fn plan(
     requires to_short { nat_le (length to_name.now) 255 ≡ true }
     ensures found { IfOk result (λ r. (A : List Entry) →
         StandValid (state server.old).tree table.now A →
-        PlanFound A table.now.rows.items from.now name.now to.now to_name.now r) }
+        Finds (rename_tests A from.now name.now to.now to_name.now)
+        (IsPlanned A table.now.rows.items from.now name.now to.now to_name.now) r) }
     ensures same { OnOk result ((state server.new).tree ≡ (state server.old).tree) }
     ensures watched { Watched (state server.old) (state server.new) result }
 {

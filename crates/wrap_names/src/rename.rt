@@ -3,21 +3,22 @@
 ghost use Rattle.std.specs.Prelude.{◌≡◌, ◌++◌, ℕ, true, List, IfOk, OnOk};
 ghost use Rattle.nfs2_types.specs.Call.{call_fits};
 ghost use Rattle.nfs2_types.specs.Call as calls;
-ghost use Rattle.nfs2_types.specs.Times.{is_time};
+ghost use Rattle.nfs2_types.specs.declared.Cred.{Cred};
 ghost use Rattle.abs_model.specs.declared.entry.Entry.{Entry};
 ghost use Rattle.abs_model.specs.Array.{changed};
-ghost use Rattle.abs_model.specs.Machine.{result_of, array_after, told};
-ghost use Rattle.conf_map.specs.Stands.{Stands, StandValid, StandsValid, AreWithin, HasRoom};
+ghost use Rattle.conf_map.specs.Stands.{Stands, StandValid, StandsValid};
+ghost use Rattle.conf_map.specs.Tallied.{Tallied};
+ghost use Rattle.conf_map.specs.Performs.{CanPerform, Performs};
 ghost use Rattle.conf_map.specs.Notice.{Watched, NoticedAll};
-ghost use Rattle.wrap_names.specs.Renames.{moves, cleared, told_ends, CanMove, CanReplace};
+ghost use Rattle.node_changes.specs.Moves.{CanMove};
+ghost use Rattle.wrap_names.specs.Renames.{moves, cleared, told_ends, CanReplace};
 
-use crate::drop::drop_name;
 use crate::ends::Ends;
-use crate::move_name::move_name;
 use crate::plan::plan;
 use crate::tell::tell_ends;
 use conf_map::Modify;
-use nfs2_types::{Cred, Handle, Limits, NfsResult, Time};
+use nfs2_types::{Handle, Limits, NfsResult, Time};
+use node_changes::{drop_name, move_name};
 use server_trait::{ConfTable, FileServer, Srv, WrapErr};
 
 /// Takes out the second name, and with its last name what it leads to, where it is there.
@@ -60,6 +61,9 @@ fn tell_and_move<M: Modify>(
     ensures stands { OnOk result ((A : List Entry) →
         CanReplace (state server.old) table.old A name.now to_name.now ends.now →
         Stands (state server.new).tree table.new (changed (moves A name.now to_name.now ends.now time) A)) }
+    ensures tallied { OnOk result ((A : List Entry) →
+        CanReplace (state server.old) table.old A name.now to_name.now ends.now →
+        Tallied table.new (changed (moves A name.now to_name.now ends.now time) A)) }
     ensures told { OnOk result (M.told saver.new ≡ M.told saver.old ++ told_ends ends.now) }
     ensures noticed { OnOk result ((A : List Entry) → StandValid (state server.old).tree table.old A →
         NoticedAll M.noticed A saver.old (told_ends ends.now) saver.new) }
@@ -78,7 +82,6 @@ pub fn rename<M: Modify>(
     server: &mut Srv,
     table: &mut ConfTable,
     limits: &Limits,
-    cred: &Cred,
     time: Time,
     from: &Handle,
     name: &[u8],
@@ -86,27 +89,12 @@ pub fn rename<M: Modify>(
     to_name: &[u8],
     saver: &mut M,
 ) -> Result<NfsResult, WrapErr>
-    requires stands { (A : List Entry)
-        × StandsValid limits.now (state server.old).tree table.old A }
-    requires within { AreWithin limits.now }
-    requires room { HasRoom limits.now (state server.old).limits }
-    requires time { is_time time ≡ true }
+    requires can { CanPerform limits.now (state server.old) table.old time }
     requires fits { call_fits (calls.rename from.now name.now to.now to_name.now) ≡ true }
-    ensures answers { IfOk result (λ r. (A : List Entry) →
+    ensures performs { IfOk result (λ r. (A : List Entry) (cred : Cred) →
         StandsValid limits.now (state server.old).tree table.old A →
-        r ≡ result_of A limits.now cred.now time (calls.rename from.now name.now to.now to_name.now)) }
-    ensures stands { OnOk result ((A : List Entry) →
-        StandsValid limits.now (state server.old).tree table.old A →
-        Stands (state server.new).tree table.new
-        (array_after A limits.now cred.now time (calls.rename from.now name.now to.now to_name.now))) }
-    ensures told { OnOk result ((A : List Entry) →
-        StandsValid limits.now (state server.old).tree table.old A →
-        M.told saver.new ≡ M.told saver.old
-        ++ told A limits.now cred.now time (calls.rename from.now name.now to.now to_name.now)) }
-    ensures noticed { OnOk result ((A : List Entry) →
-        StandsValid limits.now (state server.old).tree table.old A →
-        NoticedAll M.noticed A saver.old
-        (told A limits.now cred.now time (calls.rename from.now name.now to.now to_name.now)) saver.new) }
+        Performs M.told M.noticed limits.now cred time (calls.rename from.now name.now to.now to_name.now)
+        A r (state server.new).tree table.new saver.old saver.new) }
     ensures watched { Watched (state server.old) (state server.new) result }
 {
     let planned = match plan(server, table, from, name, to, to_name)? {

@@ -1,106 +1,66 @@
--- What a server holds of files and links, and which files a call finds.
-use Rattle.std.proofs.Common.{◌≡◌, ℕ, true, false, Bool, List, take, drop, length, Option, Some, None, IsSome, IsSomeAnd, is_some, sym, ap, ◌∙◌}
+-- Which files a call finds.
+use Rattle.std.proofs.Common.{◌≡◌, ℕ, true, false, Bool, List, length, Option, Some, None, Result, Ok, Err, sym, ap, ◌∙◌}
 use Rattle.std.specs.Prelude.{if◌then◌else◌, is_none, unwrap_or}
-use Rattle.std.specs.Option.{option_and_then, option_map}
+use Rattle.std.specs.Option.{option_map}
 use Rattle.nfs2_types.specs.declared.fattr.Kind.TheVariants as kinds
 use Rattle.nfs2_types.specs.declared.Stat.{Stat}
 use Rattle.nfs2_types.specs.declared.stat.TheConstants.{ACCES, ISDIR, STALE}
-use Rattle.server_trait.specs.Tree.{Tree, Node, Content, bytes_in, text_in, bytes_at, text_at}
-use Rattle.server_trait.proofs.TreeLaws.{some_same, is_some_and}
+use Rattle.server_trait.specs.Tree.{Tree}
 use Rattle.server_trait.specs.declared.server.NodeAttr.{NodeAttr}
-use Rattle.server_trait.specs.declared.bench.ConfEntry.{ConfEntry}
 use Rattle.server_trait.specs.declared.bench.ConfTable.{ConfTable}
-use Rattle.abs_model.specs.declared.entry.Object.{Object}
-use Rattle.abs_model.specs.declared.entry.Object.TheVariants.{File, Link}
 use Rattle.abs_model.specs.declared.entry.Entry.{Entry}
-use Rattle.abs_model.specs.Objects.{is_file, is_dir, is_link, bytes_of}
+use Rattle.abs_model.specs.Objects.{is_dir, is_link}
 use Rattle.abs_model.specs.Array.{entry_at, live}
-use Rattle.abs_model.specs.Machine.{first_of}
+use Rattle.abs_model.specs.Machine.{first_of, file_tests}
 use Rattle.conf_map.specs.declared.table.Located.{Located}
-use Rattle.conf_map.specs.Stands.{handle_at, SameContent, StandValid}
+use Rattle.conf_map.specs.Stands.{StandValid}
 use Rattle.conf_map.specs.Tables.{located}
-use Rattle.conf_map.specs.Found.{is_file_kind, is_dir_kind, is_link_kind, IsSeen}
-use Rattle.conf_map.proofs.Frames.{entry_at-some}
-use Rattle.conf_map.proofs.LiveRows.{at_handle, same_content}
+use Rattle.conf_map.specs.Found.{is_file_kind, is_dir_kind, is_link_kind, Finds, IsSeen}
+use Rattle.conf_map.specs.Shown.{IsTold}
+use Rattle.conf_map.proofs.Finding.{finds_ok, finds_err}
 use Rattle.conf_map.proofs.Seen.{live_agrees, located_live}
-use Rattle.wrap_read.specs.Reads.{in_file, IsFileCall}
-
--- BYTES AND TEXTS
-
-file_content : (rows : List ConfEntry) (g : ℕ) (o : Object) (c : Content) → SameContent rows o c → is_file (record { generation = g; object = o }) ≡ true →
-    bytes_in c ≡ Some (bytes_of (record { generation = g; object = o }))
-file_content rows g (File a b) c same is = ap bytes_in same
-file_content rows g _ c same is = absurd (let bad : false ≡ true = is in cc)
-
-link_content : (rows : List ConfEntry) (g : ℕ) (o : Object) (c : Content) → SameContent rows o c → is_link (record { generation = g; object = o }) ≡ true →
-    text_in c ≡ Some (bytes_of (record { generation = g; object = o }))
-link_content rows g (Link a b) c same is = ap text_in same
-link_content rows g _ c same is = absurd (let bad : false ≡ true = is in cc)
-
-module _ (s : Option Tree) (table : ConfTable) (A : List Entry) (k : StandValid s table A) (i : ℕ) (h : List ℕ) (at : handle_at table.rows.items i ≡ Some h) where
-  bytes_agree : is_file (entry_at A i) ≡ true → bytes_at k.stands.tree h ≡ Some (bytes_of (entry_at A i))
-  bytes_agree is =
-      let e = at_handle s table A k.stands i h at in
-      let same = entry_at-some A i e.2 e.3.is_entry in
-      ap (option_and_then (λ (n : Node). bytes_in n.content)) e.3.is_node
-      ∙ file_content table.rows.items e.2.generation e.2.object e.1.content (same_content s table A k.stands i h e.0 e.1 e.2 e.3) (ap is_file (sym same) ∙ is)
-      ∙ ap (λ e. Some (bytes_of e)) (sym same)
-
-  text_agrees : is_link (entry_at A i) ≡ true → text_at k.stands.tree h ≡ Some (bytes_of (entry_at A i))
-  text_agrees is =
-      let e = at_handle s table A k.stands i h at in
-      let same = entry_at-some A i e.2 e.3.is_entry in
-      ap (option_and_then (λ (n : Node). text_in n.content)) e.3.is_node
-      ∙ link_content table.rows.items e.2.generation e.2.object e.1.content (same_content s table A k.stands i h e.0 e.1 e.2 e.3) (ap is_link (sym same) ∙ is)
-      ∙ ap (λ e. Some (bytes_of e)) (sym same)
-
-  pub has_bytes : is_file (entry_at A i) ≡ true → IsSomeAnd s (λ t. IsSome (bytes_at t h))
-  has_bytes is = is_some_and (λ t. IsSome (bytes_at t h)) k.stands.has_tree (ap is_some (bytes_agree is))
-
-  pub has_text : is_link (entry_at A i) ≡ true → IsSomeAnd s (λ t. IsSome (text_at t h))
-  has_text is = is_some_and (λ t. IsSome (text_at t h)) k.stands.has_tree (ap is_some (text_agrees is))
-
-  -- what was read of a live file is of its bytes
-  pub bytes_read : (offset n count : ℕ) (v : List ℕ) → is_file (entry_at A i) ≡ true → n ≡ count → ((t : Tree) → s ≡ Some t → option_map (λ b. take n (drop offset b)) (bytes_at t h) ≡ Some v) →
-      v ≡ take count (drop offset (bytes_of (entry_at A i)))
-  bytes_read offset n count v is same read =
-      some_same (read k.stands.tree k.stands.has_tree) (ap (option_map (λ b. take n (drop offset b))) (bytes_agree is))
-      ∙ ap (λ n. take n (drop offset (bytes_of (entry_at A i)))) same
-
-  -- and of a live link is its text
-  pub text_read : (v : List ℕ) → is_link (entry_at A i) ≡ true → ((t : Tree) → s ≡ Some t → text_at t h ≡ Some v) → v ≡ bytes_of (entry_at A i)
-  text_read v is read = some_same (read k.stands.tree k.stands.has_tree) (text_agrees is)
-
--- THE FILE OF A CALL
+use Rattle.wrap_read.specs.Reads.{IsFileCall}
+use Rattle.wrap_read.specs.declared.content.OpenFile.{OpenFile}
 
 -- its first refusal, by what its handle names
 abbrev refused : List Entry → Option ℕ → Option Stat
-refused A l = if is_none l then Some STALE else (if is_dir (entry_at A (unwrap_or l (length A))) then Some ISDIR else (if is_link (entry_at A (unwrap_or l (length A))) then Some ACCES else None))
+refused A l = if is_none l then Some STALE
+    else (if is_dir (entry_at A (unwrap_or l (length A))) then Some ISDIR
+    else (if is_link (entry_at A (unwrap_or l (length A))) then Some ACCES else None))
 
 module _ (s : Option Tree) (table : ConfTable) (A : List Entry) (k : StandValid s table A) (file : List ℕ) where
-  pub file_stale : None ≡ located table.rows.items file → first_of (in_file A file) ≡ Some STALE
-  file_stale is = ap (refused A) (live_agrees s table A k.stands file ∙ ap (option_map (λ (l : Located). l.index)) (sym is))
+  -- what the search comes to
+  abbrev Search : Result OpenFile Stat → Type 0
+  Search = Finds (file_tests A file) (IsFileCall A table.rows.items file)
 
-  module _ (l : Located) (is : Some l ≡ located table.rows.items file) (a : NodeAttr) (seen : IsSeen (entry_at A l.index) a) where
+  pub file_stale : None ≡ located table.rows.items file → Search (Err STALE)
+  file_stale is = finds_err (ap (refused A)
+      (live_agrees s table A k.stands file ∙ ap (option_map (λ (l : Located). l.index)) (sym is)))
+
+  module _ (l : Located) (is : Some l ≡ located table.rows.items file) (a : NodeAttr)
+      (seen : IsSeen (entry_at A l.index) a) where
     is_index : live A file ≡ Some l.index
     is_index = live_agrees s table A k.stands file ∙ ap (option_map (λ (l : Located). l.index)) (sym is)
 
-    by_kind : (dir link : Bool) → is_dir_kind a.kind ≡ dir → is_link_kind a.kind ≡ link → first_of (in_file A file) ≡ (if dir then Some ISDIR else (if link then Some ACCES else None))
+    by_kind : (dir link : Bool) → is_dir_kind a.kind ≡ dir → is_link_kind a.kind ≡ link →
+        first_of (file_tests A file) ≡ (if dir then Some ISDIR else (if link then Some ACCES else None))
     by_kind dir link is_dir' is_link' =
         ap (refused A) is_index
-        ∙ ap (λ b. if b then Some ISDIR else (if is_link (entry_at A l.index) then Some ACCES else None)) (sym seen.dir ∙ is_dir')
+        ∙ ap (λ b. if b then Some ISDIR else (if is_link (entry_at A l.index) then Some ACCES else None))
+        (sym seen.dir ∙ is_dir')
         ∙ ap (λ b. if dir then Some ISDIR else (if b then Some ACCES else None)) (sym seen.link ∙ is_link')
 
-    pub file_dir : a.kind ≡ kinds.Dir → first_of (in_file A file) ≡ Some ISDIR
-    file_dir kind = by_kind true false (ap is_dir_kind kind) (ap is_link_kind kind)
+    pub file_dir : a.kind ≡ kinds.Dir → Search (Err ISDIR)
+    file_dir kind = finds_err (by_kind true false (ap is_dir_kind kind) (ap is_link_kind kind))
 
-    pub file_link : a.kind ≡ kinds.Link → first_of (in_file A file) ≡ Some ACCES
-    file_link kind = by_kind false true (ap is_dir_kind kind) (ap is_link_kind kind)
+    pub file_link : a.kind ≡ kinds.Link → Search (Err ACCES)
+    file_link kind = finds_err (by_kind false true (ap is_dir_kind kind) (ap is_link_kind kind))
 
-    pub file_found : a.kind ≡ kinds.File → IsFileCall A table.rows.items file l
-    file_found kind = record {
-      none = by_kind false false (ap is_dir_kind kind) (ap is_link_kind kind);
+    pub file_found : a.kind ≡ kinds.File → IsTold A table.rows.items l.index a →
+        Search (Ok (record { at = l; attr = a }))
+    file_found kind told = finds_ok (by_kind false false (ap is_dir_kind kind) (ap is_link_kind kind)) (record {
       is_index = is_index;
       live = located_live table.rows.items file l (sym is);
       is_file = sym seen.file ∙ ap is_file_kind kind;
-    }
+      told = told;
+    })

@@ -1,9 +1,7 @@
 pub mod ContentAnswers
 pub mod Contents
-pub mod Limited
 pub mod ListAnswers
-pub mod ListedRows
-pub mod NameOrder
+pub mod Pages
 pub mod ReadAnswers
 pub mod ReadCalls
 pub mod StepLemmas

@@ -1,18 +1,17 @@
 -- Calls that only read (RFC 1094, 2.2), how they walk from a directory by a name, and which files they find.
-use Rattle.std.specs.Prelude.{◌≡◌, ℕ, List, [], ◌∷◌, Bool, true, false, not, ◌&&◌, if◌then◌else◌, bytes_eq, Option, Some, None, Result, Ok, Err, slice_get}
+use Rattle.std.specs.Prelude.{◌≡◌, ℕ, List, Bool, true, false, not, ◌&&◌, if◌then◌else◌, bytes_eq, Option, Some, None, slice_get}
 use Rattle.std.specs.Option.{option_and_then, option_map}
-use Rattle.nfs2_types.specs.declared.Stat.{Stat}
-use Rattle.nfs2_types.specs.declared.stat.TheConstants.{ACCES, ISDIR, STALE}
 use Rattle.nfs2_types.specs.Call.{Call, null, root, write_cache, get_attr, lookup, read_link, read, read_dir, stat_fs}
 use Rattle.nfs2_types.specs.Names.{is_dot, name_dot, name_dots}
 use Rattle.server_trait.specs.declared.bench.ConfEntry.{ConfEntry}
 use Rattle.abs_model.specs.declared.entry.Entry.{Entry}
-use Rattle.abs_model.specs.Objects.{is_file, is_dir, is_link}
+use Rattle.abs_model.specs.Objects.{is_file}
 use Rattle.abs_model.specs.Array.{entry_at, live, at, parent, target, has_name}
-use Rattle.abs_model.specs.Machine.{Refusal, first_of, is_stale, ◌answers◌}
 use Rattle.conf_map.specs.declared.table.Located.{Located}
 use Rattle.conf_map.specs.Stands.{handle_at}
+use Rattle.conf_map.specs.Shown.{IsTold}
 use Rattle.conf_map.specs.Tables.{IsLive}
+use Rattle.wrap_read.specs.declared.content.OpenFile.{OpenFile}
 
 -- a call that is answered by reading
 abbrev pub is_read_call : Call → Bool
@@ -48,21 +47,9 @@ abbrev pub StepFound : List Entry → List ConfEntry → ℕ → List ℕ → Op
 StepFound A rows d name None = is_missing A d name ≡ true
 StepFound A rows d name (Some at) = IsStep A rows d name at
 
--- the tests of a call that reads a file
-abbrev pub in_file : List Entry → List ℕ → List Refusal
-in_file A file =
-    (is_stale A file answers STALE) ∷
-    (is_dir (entry_at A (at A file)) answers ISDIR) ∷
-    (is_link (entry_at A (at A file)) answers ACCES) ∷ []
-
--- the handle is that of a file
-pub record IsFileCall (A : List Entry) (rows : List ConfEntry) (file : List ℕ) (at : Located) : Type 0 where
-  pub none : first_of (in_file A file) ≡ None
-  pub is_index : live A file ≡ Some at.index
-  pub live : IsLive rows at
-  pub is_file : is_file (entry_at A at.index) ≡ true
-
--- the file of a call, or the status of its first refusal
-abbrev pub FileFound : List Entry → List ConfEntry → List ℕ → Result Located Stat → Type 0
-FileFound A rows file (Ok at) = IsFileCall A rows file at
-FileFound A rows file (Err s) = first_of (in_file A file) ≡ Some s
+-- the handle is that of a file, of which the server told this
+pub record IsFileCall (A : List Entry) (rows : List ConfEntry) (file : List ℕ) (o : OpenFile) : Type 0 where
+  pub is_index : live A file ≡ Some o.at.index
+  pub live : IsLive rows o.at
+  pub is_file : is_file (entry_at A o.at.index) ≡ true
+  pub told : IsTold A rows o.at.index o.attr

@@ -45,7 +45,7 @@ pub fn read_proc(
             count,
         } => read(server, table, &file, offset, count),
         Args::ReadDir { dir, cookie, count } => read_dir(server, table, &dir, cookie, count),
-        Args::StatFs { node } => stat_fs(server, table, limits, &node),
+        Args::StatFs { node } => Ok(stat_fs(table, limits, &node)),
         _ => Ok(NfsResult::Nothing),
     }
 }

@@ -1,51 +1,27 @@
 //! What files and links hold: READLINK and READ (RFC 1094, 2.2.6 and 2.2.7).
 
-ghost use Rattle.std.specs.Prelude.{◌≡◌, ℕ, List, take, drop, option_map, Some, true, IsSome, IsSomeAnd, IfOk, OnOk};
+ghost use Rattle.std.specs.Prelude.{◌≡◌, List, IfOk, OnOk};
 ghost use Rattle.nfs2_types.specs.Call as calls;
 ghost use Rattle.nfs2_types.specs.declared.Cred.{Cred};
 ghost use Rattle.nfs2_types.specs.declared.Limits.{Limits};
 ghost use Rattle.nfs2_types.specs.declared.Time.{Time};
-ghost use Rattle.server_trait.specs.Tree as tree;
 ghost use Rattle.abs_model.specs.declared.entry.Entry.{Entry};
-ghost use Rattle.abs_model.specs.Machine.{result_of};
-ghost use Rattle.conf_map.specs.Found.{is_link_kind};
+ghost use Rattle.abs_model.specs.Machine.{result_of, file_tests};
+ghost use Rattle.conf_map.specs.Found.{Finds};
 ghost use Rattle.conf_map.specs.Notice.{Watched};
 ghost use Rattle.conf_map.specs.Stands.{StandValid};
-ghost use Rattle.wrap_read.specs.Reads.{FileFound};
+ghost use Rattle.wrap_read.specs.Reads.{IsFileCall};
 
-use conf_map::{Located, broken, fattr_at, locate, object_at};
+use abs_model::TRANSFER_LIMIT;
+use conf_map::{Located, bytes_of, fattr_from, locate, object_at, text_of};
 use nfs2_types::{Blob, Handle, Kind, NfsResult, Stat, stat};
-use server_trait::{ConfTable, FileServer, NodeAttr, Srv, WrapErr};
+use server_trait::{ConfTable, NodeAttr, Srv, WrapErr};
 
-/// The most bytes that one READ gives (RFC 1094, 2.3: MAXDATA).
-const MAX_DATA: u32 = 8192;
-
-/// The bytes of a file from an offset up to the count or the end.
-fn bytes_at(server: &mut Srv, file: &Handle, offset: u32, count: u32) -> Result<Vec<u8>, WrapErr>
-    requires { IsSomeAnd (state server.old).tree (λ t. IsSome (tree.bytes_at t file.now)) }
-    ensures bytes { IfOk result (λ v. (t : tree.Tree) → (state server.old).tree ≡ Some t →
-        option_map (λ b. take count (drop offset b)) (tree.bytes_at t file.now) ≡ Some v.items) }
-    ensures same { OnOk result ((state server.new).tree ≡ (state server.old).tree) }
-    ensures watched { Watched (state server.old) (state server.new) result }
-{
-    match server.read(file, offset, count) {
-        Ok(bytes) => Ok(bytes),
-        Err(error) => Err(broken(error)),
-    }
-}
-
-/// The text of a link.
-fn text_at(server: &mut Srv, link: &Handle) -> Result<Vec<u8>, WrapErr>
-    requires { IsSomeAnd (state server.old).tree (λ t. IsSome (tree.text_at t link.now)) }
-    ensures text { IfOk result (λ v. (t : tree.Tree) → (state server.old).tree ≡ Some t →
-        tree.text_at t link.now ≡ Some v.items) }
-    ensures same { OnOk result ((state server.new).tree ≡ (state server.old).tree) }
-    ensures watched { Watched (state server.old) (state server.new) result }
-{
-    match server.read_link(link) {
-        Ok(text) => Ok(text),
-        Err(error) => Err(broken(error)),
-    }
+/// A file, and what its server tells of it.
+#[derive(Clone, Copy, Debug)]
+struct OpenFile {
+    at: Located,
+    attr: NodeAttr,
 }
 
 /// The file of a call, or the status of the first refusal: STALE, ISDIR, ACCES.
@@ -53,10 +29,11 @@ fn in_file(
     server: &mut Srv,
     table: &ConfTable,
     file: &Handle,
-) -> Result<Result<Located, Stat>, WrapErr>
+) -> Result<Result<OpenFile, Stat>, WrapErr>
     requires { (A : List Entry) × StandValid (state server.old).tree table.now A }
     ensures found { IfOk result (λ r. (A : List Entry) →
-        StandValid (state server.old).tree table.now A → FileFound A table.now.rows.items file.now r) }
+        StandValid (state server.old).tree table.now A →
+        Finds (file_tests A file.now) (IsFileCall A table.now.rows.items file.now) r) }
     ensures same { OnOk result ((state server.new).tree ≡ (state server.old).tree) }
     ensures watched { Watched (state server.old) (state server.new) result }
 {
@@ -65,19 +42,9 @@ fn in_file(
     };
     let attr = object_at(server, table, &at)?;
     match attr.kind {
-        Kind::File => Ok(Ok(at)),
+        Kind::File => Ok(Ok(OpenFile { at, attr })),
         Kind::Dir => Ok(Err(stat::ISDIR)),
         Kind::Link => Ok(Err(stat::ACCES)),
-    }
-}
-
-/// Whether these are attributes of a link.
-fn is_link(attr: &NodeAttr) -> bool
-    ensures { result ≡ is_link_kind attr.now.kind }
-{
-    match attr.kind {
-        Kind::Link => true,
-        _ => false,
     }
 }
 
@@ -94,10 +61,10 @@ pub fn read_link(server: &mut Srv, table: &ConfTable, node: &Handle) -> Result<N
         return Ok(NfsResult::Refused(stat::STALE));
     };
     let attr = object_at(server, table, &at)?;
-    if !is_link(&attr) {
+    if !attr.is_link() {
         return Ok(NfsResult::Refused(stat::NXIO));
     }
-    let text = text_at(server, &at.handle)?;
+    let text = text_of(server, table, &at)?;
     Ok(NfsResult::Path(Blob::new(text)))
 }
 
@@ -116,12 +83,12 @@ pub fn read(
     ensures same { OnOk result ((state server.new).tree ≡ (state server.old).tree) }
     ensures watched { Watched (state server.old) (state server.new) result }
 {
-    let at = match in_file(server, table, file)? {
-        Ok(at) => at,
+    let open = match in_file(server, table, file)? {
+        Ok(open) => open,
         Err(status) => return Ok(NfsResult::Refused(status)),
     };
-    let fattr = fattr_at(server, table, &at)?;
-    let bytes = bytes_at(server, &at.handle, offset, count.min(MAX_DATA))?;
+    let fattr = fattr_from(table, &open.at, &open.attr);
+    let bytes = bytes_of(server, table, &open.at, offset, count.min(TRANSFER_LIMIT))?;
     Ok(NfsResult::Content {
         fattr,
         bytes: Blob::new(bytes),

@@ -5,6 +5,7 @@ mod calls;
 mod content;
 mod get_attr;
 mod lookup;
+mod page;
 mod read_dir;
 mod stat_fs;
 

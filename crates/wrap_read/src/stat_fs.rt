@@ -1,59 +1,46 @@
 //! STATFS (RFC 1094, 2.2.18).
 
-ghost use Rattle.std.specs.Prelude.{◌≡◌, ◌-◌, ◌/◌, List, IfOk, OnOk};
+ghost use Rattle.std.specs.Prelude.{◌≡◌, ◌≤◌, ◌-◌, ◌/◌, List, Option};
 ghost use Rattle.nfs2_types.specs.Call as calls;
 ghost use Rattle.nfs2_types.specs.declared.Cred.{Cred};
 ghost use Rattle.nfs2_types.specs.declared.Time.{Time};
+ghost use Rattle.server_trait.specs.Tree.{Tree};
 ghost use Rattle.abs_model.specs.declared.entry.Entry.{Entry};
-ghost use Rattle.abs_model.specs.Array as array;
 ghost use Rattle.abs_model.specs.Machine.{result_of};
-ghost use Rattle.conf_map.specs.Notice.{Watched};
-ghost use Rattle.conf_map.specs.Stands.{AreWithin, StandsValid};
+ghost use Rattle.conf_map.specs.Stands.{StandsValid};
 
-use conf_map::{locate, used};
+use abs_model::TRANSFER_LIMIT;
+use conf_map::locate;
 use nfs2_types::{Handle, Limits, NfsResult, stat};
-use server_trait::{ConfTable, Srv, WrapErr};
+use server_trait::ConfTable;
 
 /// The bytes of a block, in which space is told.
 const BLOCK: u32 = 512;
 
 /// How many blocks are free.
-fn free_blocks(server: &mut Srv, table: &ConfTable, limits: &Limits) -> Result<u32, WrapErr>
-    requires stands { (A : List Entry) × StandsValid limits.now (state server.old).tree table.now A }
-    requires within { AreWithin limits.now }
-    ensures blocks { IfOk result (λ n. (A : List Entry) →
-        StandsValid limits.now (state server.old).tree table.now A → n ≡ (limits.now.t - array.used A) / 512) }
-    ensures same { OnOk result ((state server.new).tree ≡ (state server.old).tree) }
-    ensures watched { Watched (state server.old) (state server.new) result }
+fn free_blocks(table: &ConfTable, limits: &Limits) -> u32
+    requires { table.now.used ≤ limits.now.t }
+    ensures { result ≡ (limits.now.t - table.now.used) / 512 }
 {
-    let used = used(server, table)?;
-    Ok((limits.t - used as u32) / BLOCK)
+    (limits.t - table.used as u32) / BLOCK
 }
 
-/// The space of the service: transfers of 8,192 bytes, blocks of 512, and how many there are and are free.
-pub fn stat_fs(
-    server: &mut Srv,
-    table: &ConfTable,
-    limits: &Limits,
-    node: &Handle,
-) -> Result<NfsResult, WrapErr>
-    requires stands { (A : List Entry) × StandsValid limits.now (state server.old).tree table.now A }
-    requires within { AreWithin limits.now }
-    ensures result { IfOk result (λ r. (A : List Entry) (cred : Cred) (t : Time) →
-        StandsValid limits.now (state server.old).tree table.now A →
-        r ≡ result_of A limits.now cred t (calls.stat_fs node.now)) }
-    ensures same { OnOk result ((state server.new).tree ≡ (state server.old).tree) }
-    ensures watched { Watched (state server.old) (state server.new) result }
+/// The space of the service: transfers of 8,192 bytes, blocks of 512, and how many there are and are free. It asks
+/// the server nothing, and takes no memory.
+pub fn stat_fs(table: &ConfTable, limits: &Limits, node: &Handle) -> NfsResult
+    requires { table.now.used ≤ limits.now.t }
+    ensures { (A : List Entry) (s : Option Tree) (cred : Cred) (t : Time) → StandsValid limits.now s table.now A →
+        result ≡ result_of A limits.now cred t (calls.stat_fs node.now) }
 {
     let Some(_) = locate(table, node) else {
-        return Ok(NfsResult::Refused(stat::STALE));
+        return NfsResult::Refused(stat::STALE);
     };
-    let left = free_blocks(server, table, limits)?;
-    Ok(NfsResult::Space {
-        tsize: 8192,
+    let left = free_blocks(table, limits);
+    NfsResult::Space {
+        tsize: TRANSFER_LIMIT,
         bsize: BLOCK,
         blocks: limits.t / BLOCK,
         bfree: left,
         bavail: left,
-    })
+    }
 }

@@ -1,10 +1,4 @@
-mod Alike
-mod ByteLaws
-mod CallSteps
-mod Edits
-mod Holdings
-mod SetDone
-mod Settled
+mod Asked
+mod OneObject
 mod TargetFacts
-mod WriteDone
-mod Writings
+mod WrittenSizes

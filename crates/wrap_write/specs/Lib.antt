@@ -1,4 +1,2 @@
 pub mod Kinds
-pub mod Puts
-pub mod Settings
 pub mod Targets

@@ -1,15 +1,14 @@
 -- The object of a call that writes a file or sets attributes (RFC 1094, 2.2.3 and 2.2.9).
-use Rattle.std.specs.Prelude.{◌≡◌, ℕ, ◌+◌, max, List, ◌∷◌, [], length, true, ◌&&◌, nat_lt, is_some, unwrap_or, Option, Some, None, Result, Ok, Err}
+use Rattle.std.specs.Prelude.{◌≡◌, ℕ, ◌+◌, max, List, ◌∷◌, [], length, ◌&&◌, nat_lt, is_some, unwrap_or, Option, Some}
 use Rattle.nfs2_types.specs.declared.Limits.{Limits}
 use Rattle.nfs2_types.specs.declared.Stat.{Stat}
 use Rattle.nfs2_types.specs.declared.stat.TheConstants.{ISDIR, ACCES, FBIG, NOSPC}
-use Rattle.nfs2_types.specs.Call.{Call}
 use Rattle.server_trait.specs.declared.server.NodeAttr.{NodeAttr}
 use Rattle.server_trait.specs.declared.bench.ConfEntry.{ConfEntry}
 use Rattle.abs_model.specs.declared.entry.Entry.{Entry}
 use Rattle.abs_model.specs.Objects.{is_dir, is_link, bytes_of}
 use Rattle.abs_model.specs.Array.{entry_at, live}
-use Rattle.abs_model.specs.Machine.{Refusal, ◌answers◌, first_of, refusals, is_stale, file_limit, no_room}
+use Rattle.abs_model.specs.Machine.{Refusal, ◌answers◌, first_of, file_limit, no_room}
 use Rattle.conf_map.specs.Found.{IsSeen, is_dir_kind, is_link_kind}
 use Rattle.conf_map.specs.Tables.{IsLive}
 use Rattle.wrap_write.specs.declared.target.Target.{Target}
@@ -19,11 +18,6 @@ pub record IsTarget (A : List Entry) (rows : List ConfEntry) (node : List ℕ) (
   pub is_index : live A node ≡ Some o.at.index
   pub live : IsLive rows o.at
   pub seen : IsSeen (entry_at A o.at.index) o.attr
-
--- the object that a handle names, if it is not stale
-abbrev pub TargetFound : List Entry → List ConfEntry → List ℕ → Option Target → Type 0
-TargetFound A rows node None = is_stale A node ≡ true
-TargetFound A rows node (Some o) = IsTarget A rows node o
 
 -- the first refusal of what is no file
 abbrev pub no_file : NodeAttr → Option Stat
@@ -40,7 +34,8 @@ write_tests A limits e offset count =
     (is_dir e answers ISDIR) ∷
     (is_link e answers ACCES) ∷
     (nat_lt 0 count && nat_lt file_limit (offset + count) answers FBIG) ∷
-    (nat_lt 0 count && no_room A limits (length (bytes_of e)) (max (length (bytes_of e)) (offset + count)) answers
+    (nat_lt 0 count && no_room A limits (length (bytes_of e))
+    (max (length (bytes_of e)) (offset + count)) answers
     NOSPC) ∷ []
 
 -- the tests of an entry that gets a size, if one is given
@@ -50,14 +45,3 @@ size_tests A limits e size =
     (is_some size && is_link e answers ACCES) ∷
     (is_some size && nat_lt file_limit (unwrap_or size 0) answers FBIG) ∷
     (is_some size && no_room A limits (length (bytes_of e)) (unwrap_or size 0) answers NOSPC) ∷ []
-
--- a call that is not refused, and its object
-pub record IsCall (A : List Entry) (limits : Limits) (rows : List ConfEntry) (call : Call) (node : List ℕ)
-    (o : Target) : Type 0 where
-  pub none : first_of (refusals A limits call) ≡ None
-  pub target : IsTarget A rows node o
-
--- the object of a call, or the status of its first refusal
-abbrev pub CallFound : List Entry → Limits → List ConfEntry → Call → List ℕ → Result Target Stat → Type 0
-CallFound A limits rows call node (Ok o) = IsCall A limits rows call node o
-CallFound A limits rows call node (Err s) = first_of (refusals A limits call) ≡ Some s

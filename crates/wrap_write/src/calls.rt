@@ -1,19 +1,18 @@
 //! The procedures that write a file or set attributes (RFC 1094, 2.2).
 
-ghost use Rattle.std.specs.Prelude.{◌≡◌, ◌++◌, true, List, IfOk, OnOk};
+ghost use Rattle.std.specs.Prelude.{◌≡◌, true, List, IfOk};
 ghost use Rattle.nfs2_types.specs.Call.{call_of, call_fits};
-ghost use Rattle.nfs2_types.specs.Times.{is_time};
 ghost use Rattle.abs_model.specs.declared.entry.Entry.{Entry};
-ghost use Rattle.abs_model.specs.Machine.{result_of, array_after, told};
-ghost use Rattle.conf_map.specs.Stands.{Stands, StandsValid, AreWithin, HasRoom};
-ghost use Rattle.conf_map.specs.Notice.{Watched, NoticedAll};
+ghost use Rattle.conf_map.specs.Notice.{Watched};
+ghost use Rattle.conf_map.specs.Performs.{CanPerform, Performs};
+ghost use Rattle.conf_map.specs.Stands.{StandsValid};
 ghost use Rattle.wrap_write.specs.Kinds.{is_write_call};
 
 use crate::set_attr::set_attr;
 use crate::write::write;
 use conf_map::Modify;
 use nfs2_types::{Args, Cred, Limits, NfsResult, Time};
-use server_trait::{ConfTable, FileServer, Srv, WrapErr};
+use server_trait::{ConfTable, Srv, WrapErr};
 
 /// Does a call that writes a file or sets attributes, and tells `saver` of its object before the first change.
 /// After `Down`, where the server failed, and after `NoMemory` server and table stand for nothing.
@@ -26,28 +25,13 @@ pub fn write_proc<M: Modify>(
     args: &Args,
     saver: &mut M,
 ) -> Result<NfsResult, WrapErr>
-    requires stands { (A : List Entry)
-        × StandsValid limits.now (state server.old).tree table.old A }
-    requires within { AreWithin limits.now }
-    requires room { HasRoom limits.now (state server.old).limits }
-    requires time { is_time time ≡ true }
+    requires can { CanPerform limits.now (state server.old) table.old time }
     requires call { is_write_call (call_of args.now) ≡ true }
     requires fits { call_fits (call_of args.now) ≡ true }
-    ensures answers { IfOk result (λ r. (A : List Entry) →
+    ensures performs { IfOk result (λ r. (A : List Entry) →
         StandsValid limits.now (state server.old).tree table.old A →
-        r ≡ result_of A limits.now cred.now time (call_of args.now)) }
-    ensures stands { OnOk result ((A : List Entry) →
-        StandsValid limits.now (state server.old).tree table.old A →
-        Stands (state server.new).tree table.new
-        (array_after A limits.now cred.now time (call_of args.now))) }
-    ensures told { OnOk result ((A : List Entry) →
-        StandsValid limits.now (state server.old).tree table.old A →
-        M.told saver.new ≡ M.told saver.old
-        ++ told A limits.now cred.now time (call_of args.now)) }
-    ensures noticed { OnOk result ((A : List Entry) →
-        StandsValid limits.now (state server.old).tree table.old A →
-        NoticedAll M.noticed A saver.old
-        (told A limits.now cred.now time (call_of args.now)) saver.new) }
+        Performs M.told M.noticed limits.now cred.now time (call_of args.now) A r
+        (state server.new).tree table.new saver.old saver.new) }
     ensures watched { Watched (state server.old) (state server.new) result }
 {
     match args {

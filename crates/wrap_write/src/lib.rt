@@ -2,7 +2,6 @@
 #![tactic(auto)]
 
 mod calls;
-mod put;
 mod set_attr;
 mod target;
 mod write;

@@ -3,14 +3,16 @@
 ghost use Rattle.std.specs.Prelude.{◌≡◌, ◌<◌, ◌^◌, ◌+◌, max, List, length, IfOk, OnOk};
 ghost use Rattle.nfs2_types.specs.Call as calls;
 ghost use Rattle.abs_model.specs.declared.entry.Entry.{Entry};
-ghost use Rattle.abs_model.specs.Machine.{first_of};
-ghost use Rattle.conf_map.specs.Found.{IsSeen};
+ghost use Rattle.abs_model.specs.Machine.{first_of, refusals, node_tests};
+ghost use Rattle.conf_map.specs.Found.{Finds, IsSeen};
 ghost use Rattle.conf_map.specs.Notice.{Watched};
-ghost use Rattle.conf_map.specs.Stands.{StandValid, StandsValid, AreWithin};
+ghost use Rattle.conf_map.specs.Stands.{StandValid};
+ghost use Rattle.conf_map.specs.Tallied.{Tallied};
 ghost use Rattle.wrap_write.specs.Targets as targets;
-ghost use Rattle.wrap_write.specs.Targets.{write_tests, size_tests, TargetFound, CallFound};
+ghost use Rattle.wrap_write.specs.Targets.{write_tests, size_tests, IsTarget};
 
-use conf_map::{FILE_LIMIT, Located, locate, no_room, object_at};
+use abs_model::FILE_LIMIT;
+use conf_map::{Located, locate, no_room, object_at};
 use nfs2_types::{Handle, Kind, Limits, Sattr, Stat, stat};
 use server_trait::{ConfTable, NodeAttr, Srv, WrapErr};
 
@@ -21,24 +23,24 @@ pub struct Target {
     pub attr: NodeAttr,
 }
 
-/// The object that a handle names, or `None` where it is stale.
+/// The object that a handle names, or STALE.
 fn find_target(
     server: &mut Srv,
     table: &ConfTable,
     node: &Handle,
-) -> Result<Option<Target>, WrapErr>
+) -> Result<Result<Target, Stat>, WrapErr>
     requires { (A : List Entry) × StandValid (state server.old).tree table.now A }
-    ensures found { IfOk result (λ o. (A : List Entry) →
+    ensures found { IfOk result (λ r. (A : List Entry) →
         StandValid (state server.old).tree table.now A →
-        TargetFound A table.now.rows.items node.now o) }
+        Finds (node_tests A node.now) (IsTarget A table.now.rows.items node.now) r) }
     ensures same { OnOk result ((state server.new).tree ≡ (state server.old).tree) }
     ensures watched { Watched (state server.old) (state server.new) result }
 {
     let Some(at) = locate(table, node) else {
-        return Ok(None);
+        return Ok(Err(stat::STALE));
     };
     let attr = object_at(server, table, &at)?;
-    Ok(Some(Target { at, attr }))
+    Ok(Ok(Target { at, attr }))
 }
 
 /// ISDIR or ACCES for what is no file.
@@ -53,88 +55,53 @@ fn no_file(attr: &NodeAttr) -> Option<Stat>
 }
 
 /// FBIG where bytes end behind the largest file, or NOSPC where a file of `goes` bytes can't have so many, and `least`.
-fn no_space(
-    server: &mut Srv,
-    table: &ConfTable,
-    limits: &Limits,
-    goes: u32,
-    end: u64,
-    least: u32,
-) -> Result<Option<Stat>, WrapErr>
-    requires stands { (A : List Entry) × StandsValid limits.now (state server.old).tree table.now A }
-    requires within { AreWithin limits.now }
-    ensures refused { IfOk result (λ o. (A : List Entry) →
-        StandsValid limits.now (state server.old).tree table.now A →
-        o ≡ targets.no_space A limits.now goes end (max least end)) }
-    ensures same { OnOk result ((state server.new).tree ≡ (state server.old).tree) }
-    ensures watched { Watched (state server.old) (state server.new) result }
+fn no_space(table: &ConfTable, limits: &Limits, goes: u32, end: u64, least: u32) -> Option<Stat>
+    ensures { (A : List Entry) → Tallied table.now A →
+        result ≡ targets.no_space A limits.now goes end (max least end) }
 {
     if end > u64::from(FILE_LIMIT) {
-        return Ok(Some(stat::FBIG));
+        return Some(stat::FBIG);
     }
-    if no_room(server, table, limits, goes, least.max(end as u32))? {
-        return Ok(Some(stat::NOSPC));
+    if no_room(table, limits, goes, least.max(end as u32)) {
+        return Some(stat::NOSPC);
     }
-    Ok(None)
+    None
 }
 
 /// Why so many bytes can't be written to an object at an offset, if they can't.
 fn no_write(
-    server: &mut Srv,
     table: &ConfTable,
     limits: &Limits,
     attr: &NodeAttr,
     offset: u32,
     count: usize,
-) -> Result<Option<Stat>, WrapErr>
-    requires stands { (A : List Entry) × StandsValid limits.now (state server.old).tree table.now A }
-    requires within { AreWithin limits.now }
+) -> Option<Stat>
     requires few { count < 2 ^ 32 }
-    ensures refused { IfOk result (λ o. (A : List Entry) (e : Entry) →
-        StandsValid limits.now (state server.old).tree table.now A → IsSeen e attr.now →
-        o ≡ first_of (write_tests A limits.now e offset count)) }
-    ensures same { OnOk result ((state server.new).tree ≡ (state server.old).tree) }
-    ensures watched { Watched (state server.old) (state server.new) result }
+    ensures { (A : List Entry) (e : Entry) → Tallied table.now A → IsSeen e attr.now →
+        result ≡ first_of (write_tests A limits.now e offset count) }
 {
     if let Some(refused) = no_file(attr) {
-        return Ok(Some(refused));
+        return Some(refused);
     }
     if count == 0 {
-        return Ok(None);
+        return None;
     }
-    no_space(
-        server,
-        table,
-        limits,
-        attr.size,
-        offset as u64 + count as u64,
-        attr.size,
-    )
+    let end = offset as u64 + count as u64;
+    no_space(table, limits, attr.size, end, attr.size)
 }
 
 /// Why an object can't have a size, if one is given and it can't.
-fn no_size(
-    server: &mut Srv,
-    table: &ConfTable,
-    limits: &Limits,
-    attr: &NodeAttr,
-    size: Option<u32>,
-) -> Result<Option<Stat>, WrapErr>
-    requires stands { (A : List Entry) × StandsValid limits.now (state server.old).tree table.now A }
-    requires within { AreWithin limits.now }
-    ensures refused { IfOk result (λ o. (A : List Entry) (e : Entry) →
-        StandsValid limits.now (state server.old).tree table.now A → IsSeen e attr.now →
-        o ≡ first_of (size_tests A limits.now e size)) }
-    ensures same { OnOk result ((state server.new).tree ≡ (state server.old).tree) }
-    ensures watched { Watched (state server.old) (state server.new) result }
+fn no_size(table: &ConfTable, limits: &Limits, attr: &NodeAttr, size: Option<u32>) -> Option<Stat>
+    ensures { (A : List Entry) (e : Entry) → Tallied table.now A → IsSeen e attr.now →
+        result ≡ first_of (size_tests A limits.now e size) }
 {
     let Some(size) = size else {
-        return Ok(None);
+        return None;
     };
     if let Some(refused) = no_file(attr) {
-        return Ok(Some(refused));
+        return Some(refused);
     }
-    no_space(server, table, limits, attr.size, size as u64, 0)
+    no_space(table, limits, attr.size, size as u64, 0)
 }
 
 /// The file of a WRITE, or the status of its first refusal: STALE, ISDIR, ACCES, FBIG or NOSPC.
@@ -146,19 +113,20 @@ pub fn to_write(
     offset: u32,
     bytes: &[u8],
 ) -> Result<Result<Target, Stat>, WrapErr>
-    requires stands { (A : List Entry) × StandsValid limits.now (state server.old).tree table.now A }
-    requires within { AreWithin limits.now }
+    requires stands { (A : List Entry) × StandValid (state server.old).tree table.now A }
     requires few { length bytes.now < 2 ^ 32 }
     ensures found { IfOk result (λ r. (A : List Entry) →
-        StandsValid limits.now (state server.old).tree table.now A →
-        CallFound A limits.now table.now.rows.items (calls.write file.now offset bytes.now) file.now r) }
+        StandValid (state server.old).tree table.now A →
+        Finds (refusals A limits.now (calls.write file.now offset bytes.now))
+        (IsTarget A table.now.rows.items file.now) r) }
     ensures same { OnOk result ((state server.new).tree ≡ (state server.old).tree) }
     ensures watched { Watched (state server.old) (state server.new) result }
 {
-    let Some(target) = find_target(server, table, file)? else {
-        return Ok(Err(stat::STALE));
+    let target = match find_target(server, table, file)? {
+        Ok(target) => target,
+        Err(refused) => return Ok(Err(refused)),
     };
-    match no_write(server, table, limits, &target.attr, offset, bytes.len())? {
+    match no_write(table, limits, &target.attr, offset, bytes.len()) {
         Some(refused) => Ok(Err(refused)),
         None => Ok(Ok(target)),
     }
@@ -172,18 +140,19 @@ pub fn to_set(
     node: &Handle,
     sattr: &Sattr,
 ) -> Result<Result<Target, Stat>, WrapErr>
-    requires stands { (A : List Entry) × StandsValid limits.now (state server.old).tree table.now A }
-    requires within { AreWithin limits.now }
+    requires { (A : List Entry) × StandValid (state server.old).tree table.now A }
     ensures found { IfOk result (λ r. (A : List Entry) →
-        StandsValid limits.now (state server.old).tree table.now A →
-        CallFound A limits.now table.now.rows.items (calls.set_attr node.now sattr.now) node.now r) }
+        StandValid (state server.old).tree table.now A →
+        Finds (refusals A limits.now (calls.set_attr node.now sattr.now))
+        (IsTarget A table.now.rows.items node.now) r) }
     ensures same { OnOk result ((state server.new).tree ≡ (state server.old).tree) }
     ensures watched { Watched (state server.old) (state server.new) result }
 {
-    let Some(target) = find_target(server, table, node)? else {
-        return Ok(Err(stat::STALE));
+    let target = match find_target(server, table, node)? {
+        Ok(target) => target,
+        Err(refused) => return Ok(Err(refused)),
     };
-    match no_size(server, table, limits, &target.attr, sattr.size)? {
+    match no_size(table, limits, &target.attr, sattr.size) {
         Some(refused) => Ok(Err(refused)),
         None => Ok(Ok(target)),
     }

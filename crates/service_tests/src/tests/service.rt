@@ -13,7 +13,6 @@ use nfs2_types::{Blob16, Cred, Limits, NfsResult, Time, Word};
 use rpc_core::write_call;
 use server_trait::{ConfTable, FileServer, Srv};
 use std::alloc::{AllocError, Global};
-use std::collections::BTreeMap;
 use std::test::Fail;
 
 /// The bytes of words, the high byte first.
@@ -120,10 +119,7 @@ impl Service {
         if most.nodes < 19 || most.bytes < 65536 + 1048576 {
             return Err("a small server".into());
         }
-        let mut table = ConfTable {
-            rows: Vec::new(alloc),
-            by_handle: BTreeMap::new(alloc),
-        };
+        let mut table = ConfTable::empty(alloc);
         match fresh(alloc, &mut server, &mut table, 16) {
             Ok(()) => {}
             Err(_) => return Err("the server failed".into()),

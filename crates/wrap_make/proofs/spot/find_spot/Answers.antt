@@ -6,31 +6,31 @@ returns-in-Err-clause-found g c A k = create_refused c.args.limits.now c.require
     c.args.dir.now c.args.name.now c.args.sattr.now c.in_ok-named.field-0 c.in_ok-named.ensures.found
     A k c.in-Err.refused c.in-Err.is
 
-pub old_refusal-requires-clause-live : goal.old_refusal-requires-clause-live
-old_refusal-requires-clause-live g c = old_live c.args.limits.now c.requires.within _ c.args.table.now c.args.dir.now
+pub present_file-requires-clause-live : goal.present_file-requires-clause-live
+present_file-requires-clause-live g c = old_live c.args.limits.now c.requires.within _ c.args.table.now c.args.dir.now
     c.args.name.now c.args.sattr.now c.in_ok-named.field-0 c.in_ok-named.ensures.found
     c.in-Ok.named c.in-Ok.is c.in-Some.at c.in-Some.is c.requires.stands
 
-pub returns-in-Some-2-clause-found : goal.returns-in-Some-2-clause-found
-returns-in-Some-2-clause-found g c A k = size_refused c.args.limits.now c.requires.within _ c.args.table.now
-    c.args.dir.now c.args.name.now c.args.sattr.now c.in_ok-named.field-0 c.in_ok-named.ensures.found
-    c.in-Ok.named c.in-Ok.is c.in-Some.at c.in-Some.is _ c.in_ok-named.ensures.same c.in_ok-refused-in-Some.field-0
-    c.in_ok-refused-in-Some.ensures.refused A k c.in-Some-2.refused c.in-Some-2.is
-
-pub returns-in-None-2-clause-found : goal.returns-in-None-2-clause-found
-returns-in-None-2-clause-found g c A k = old_file c.args.limits.now c.requires.within _ c.args.table.now
-    c.args.dir.now c.args.name.now c.args.sattr.now c.in_ok-named.field-0 c.in_ok-named.ensures.found
-    c.in-Ok.named c.in-Ok.is c.in-Some.at c.in-Some.is _ c.in_ok-named.ensures.same c.in_ok-refused-in-Some.field-0
-    c.in_ok-refused-in-Some.ensures.refused A k c.in-None-2.is
-
 pub returns-in-Ok-2-clause-found : goal.returns-in-Ok-2-clause-found
-returns-in-Ok-2-clause-found g c A k = new_file_found c.args.limits.now c.requires.within _ c.args.table.now
+returns-in-Ok-2-clause-found g c A k = old_file c.args.limits.now c.requires.within _ c.args.table.now
     c.args.dir.now c.args.name.now c.args.sattr.now c.in_ok-named.field-0 c.in_ok-named.ensures.found
-    c.in-Ok.named c.in-Ok.is c.in-None.is _ c.in_ok-named.ensures.same c.in_ok-index-in-None.field-0 _
-    c.unwrap_or.ensures c.in_ok-index-in-None.ensures.found A k c.in-Ok-2.index c.in-Ok-2.is
+    c.in-Ok.named c.in-Ok.is c.in-Some.at c.in-Some.is
+    _ c.in_ok-named.ensures.same c.in_ok-before-in-Some.ensures.found A k c.in-Ok-2.before c.in-Ok-2.is
 
 pub returns-in-Err-2-clause-found : goal.returns-in-Err-2-clause-found
-returns-in-Err-2-clause-found g c A k = file_refused c.args.limits.now c.requires.within _ c.args.table.now
+returns-in-Err-2-clause-found g c A k = size_refused c.args.limits.now c.requires.within _ c.args.table.now
     c.args.dir.now c.args.name.now c.args.sattr.now c.in_ok-named.field-0 c.in_ok-named.ensures.found
-    c.in-Ok.named c.in-Ok.is c.in-None.is _ c.in_ok-named.ensures.same c.in_ok-index-in-None.field-0 _
-    c.unwrap_or.ensures c.in_ok-index-in-None.ensures.found A k c.in-Err-2.refused c.in-Err-2.is
+    c.in-Ok.named c.in-Ok.is c.in-Some.at c.in-Some.is
+    _ c.in_ok-named.ensures.same c.in_ok-before-in-Some.ensures.found A k c.in-Err-2.refused c.in-Err-2.is
+
+pub returns-in-Ok-index_of_file-clause-found : goal.returns-in-Ok-index_of_file-clause-found
+returns-in-Ok-index_of_file-clause-found g c A k = new_file_found c.args.limits.now c.requires.within _ c.args.table.now
+    c.args.dir.now c.args.name.now c.args.sattr.now c.in_ok-named.field-0 c.in_ok-named.ensures.found
+    c.in-Ok.named c.in-Ok.is c.in-None.is
+    c.unwrap_or.ensures c.index_of_file.ensures A k c.in-Ok-index_of_file.index c.in-Ok-index_of_file.is
+
+pub returns-in-Err-index_of_file-clause-found : goal.returns-in-Err-index_of_file-clause-found
+returns-in-Err-index_of_file-clause-found g c A k = file_refused c.args.limits.now c.requires.within _ c.args.table.now
+    c.args.dir.now c.args.name.now c.args.sattr.now c.in_ok-named.field-0 c.in_ok-named.ensures.found
+    c.in-Ok.named c.in-Ok.is c.in-None.is
+    c.unwrap_or.ensures c.index_of_file.ensures A k c.in-Err-index_of_file.refused c.in-Err-index_of_file.is

@@ -1,72 +1,29 @@
 use Rattle.std.proofs.Common.{refl}
-use Rattle.wrap_make.proofs.Refused.{refusal_answers, refusal_stands, refusal_told, refusal_noticed}
-use Rattle.wrap_names.proofs.Doings.{both_stands, both_told_by, both_noticed, both_done}
-use Rattle.wrap_names.proofs.Removals.{file_refused, still_here, file_drop, file_does}
+use Rattle.conf_map.proofs.Performed.{refusal_performs, changes_perform}
+use Rattle.conf_map.proofs.Shows.{stand_valid}
+use Rattle.wrap_names.proofs.Removals.{still_here, file_drop, file_does}
 use Rattle.wrap_names.proofs.remove.remove.Goals as goal
 
-pub returns-in-Err-clause-answers : goal.returns-in-Err-clause-answers
-returns-in-Err-clause-answers g c A k =
-    refusal_answers A c.args.limits.now c.args.cred.now c.args.time _ c.in-Err.refused
-    (file_refused c.args.limits.now c.requires.within c.args.table.now A
-    c.args.dir.now c.args.name.now k c.in_ok-old.ensures.found c.in-Err.is)
-
-pub returns-in-Err-clause-stands : goal.returns-in-Err-clause-stands
-returns-in-Err-clause-stands g c A k =
-    refusal_stands A c.args.limits.now c.args.cred.now c.args.time _ c.in-Err.refused
-    (file_refused c.args.limits.now c.requires.within c.args.table.now A
-    c.args.dir.now c.args.name.now k c.in_ok-old.ensures.found c.in-Err.is)
-    _ _ c.args.table.now c.in_ok-old.ensures.same k.stands
-
-pub returns-in-Err-clause-told : goal.returns-in-Err-clause-told
-returns-in-Err-clause-told g c A k =
-    refusal_told A c.args.limits.now c.args.cred.now c.args.time _ c.in-Err.refused
-    (file_refused c.args.limits.now c.requires.within c.args.table.now A
-    c.args.dir.now c.args.name.now k c.in_ok-old.ensures.found c.in-Err.is) _
-
-pub returns-in-Err-clause-noticed : goal.returns-in-Err-clause-noticed
-returns-in-Err-clause-noticed g c A k =
-    refusal_noticed A c.args.limits.now c.args.cred.now c.args.time _ c.in-Err.refused
-    (file_refused c.args.limits.now c.requires.within c.args.table.now A
-    c.args.dir.now c.args.name.now k c.in_ok-old.ensures.found c.in-Err.is)
-    g.M.Modify.noticed c.args.saver.now
+pub returns-in-Err-clause-performs : goal.returns-in-Err-clause-performs
+returns-in-Err-clause-performs g c A cred k = refusal_performs
+    ((c.in_ok-old.ensures.found A (stand_valid c.args.limits.now _ c.args.table.now A c.requires.can.within k)).refused
+    _ c.in-Err.is) c.in_ok-old.ensures.same k
 
 pub tell_and_drop-requires : goal.tell_and_drop-requires
 tell_and_drop-requires g c = (
-  c.requires.stands.0,
-  file_drop c.args.limits.now c.requires.within c.args.table.now c.requires.stands.0
-      c.args.dir.now c.args.name.now c.requires.stands.1
+  c.requires.can.array,
+  file_drop c.args.limits.now c.requires.can.within c.args.table.now c.requires.can.array
+      c.args.dir.now c.args.name.now c.requires.can.stands
       c.in-Ok.old c.in_ok-old.ensures.found c.in-Ok.is _ c.in_ok-old.ensures.same,
 )
 
-pub returns-clause-answers : goal.returns-clause-answers
-returns-clause-answers g c A k = both_done
-    (file_does c.args.limits.now c.requires.within c.args.table.now A
-    c.args.dir.now c.args.name.now k
-    c.in-Ok.old c.in_ok-old.ensures.found c.in-Ok.is c.args.cred.now c.args.time) refl
-
-pub returns-clause-stands : goal.returns-clause-stands
-returns-clause-stands g c A k = both_stands
-    (file_does c.args.limits.now c.requires.within c.args.table.now A
-    c.args.dir.now c.args.name.now k
-    c.in-Ok.old c.in_ok-old.ensures.found c.in-Ok.is c.args.cred.now c.args.time)
-    _ c.tell_and_drop.new.table (c.in_ok-tell_and_drop.ensures.stands A
-    (file_drop c.args.limits.now c.requires.within c.args.table.now A
-    c.args.dir.now c.args.name.now k
-    c.in-Ok.old c.in_ok-old.ensures.found c.in-Ok.is _ c.in_ok-old.ensures.same))
-
-pub returns-clause-told : goal.returns-clause-told
-returns-clause-told g c A k = both_told_by
-    (file_does c.args.limits.now c.requires.within c.args.table.now A
-    c.args.dir.now c.args.name.now k
-    c.in-Ok.old c.in_ok-old.ensures.found c.in-Ok.is c.args.cred.now c.args.time)
-    _ _ c.in_ok-tell_and_drop.ensures.told
-
-pub returns-clause-noticed : goal.returns-clause-noticed
-returns-clause-noticed g c A k = both_noticed
-    (file_does c.args.limits.now c.requires.within c.args.table.now A
-    c.args.dir.now c.args.name.now k
-    c.in-Ok.old c.in_ok-old.ensures.found c.in-Ok.is c.args.cred.now c.args.time)
-    g.M.Modify.noticed c.args.saver.now _ (c.in_ok-tell_and_drop.ensures.noticed A
-    (still_here c.args.limits.now c.requires.within c.args.table.now A
-    c.args.dir.now c.args.name.now k
-    _ c.in_ok-old.ensures.same))
+pub returns-clause-performs : goal.returns-clause-performs
+returns-clause-performs g c A cred k =
+    let can = file_drop c.args.limits.now c.requires.can.within c.args.table.now A c.args.dir.now c.args.name.now k
+    c.in-Ok.old c.in_ok-old.ensures.found c.in-Ok.is _ c.in_ok-old.ensures.same in
+    changes_perform (file_does c.args.limits.now c.requires.can.within c.args.table.now A c.args.dir.now c.args.name.now k
+    c.in-Ok.old c.in_ok-old.ensures.found c.in-Ok.is cred c.args.time) refl
+    (c.in_ok-tell_and_drop.ensures.stands A can) (c.in_ok-tell_and_drop.ensures.tallied A can)
+    c.in_ok-tell_and_drop.ensures.told
+    (c.in_ok-tell_and_drop.ensures.noticed A (still_here c.args.limits.now c.requires.can.within c.args.table.now A
+    c.args.dir.now c.args.name.now k _ c.in_ok-old.ensures.same))

@@ -9,9 +9,14 @@ drop_name-requires g c = (
 )
 
 pub returns-in_ok-drop_name-in-Some-clause-way : goal.returns-in_ok-drop_name-in-Some-clause-way
-returns-in_ok-drop_name-in-Some-clause-way g c A name can = way_made _ c.args.table.now A name c.args.to_name.now c.args.ends.now can
+returns-in_ok-drop_name-in-Some-clause-way g c A name can =
+    way_made _ c.args.table.now A name c.args.to_name.now c.args.ends.now can
     c.in-Some.over c.in-Some.is c.args.time _ _
-    (c.in_ok-drop_name-in-Some.ensures.stands A (can_drop _ c.args.table.now A name c.args.to_name.now c.args.ends.now can
+    (c.in_ok-drop_name-in-Some.ensures.stands A
+    (can_drop _ c.args.table.now A name c.args.to_name.now c.args.ends.now can
+    c.in-Some.over c.in-Some.is))
+    (c.in_ok-drop_name-in-Some.ensures.tallied A
+    (can_drop _ c.args.table.now A name c.args.to_name.now c.args.ends.now can
     c.in-Some.over c.in-Some.is)) c.in_ok-drop_name-in-Some.ensures.handles
 
 pub returns-in-None-clause-way : goal.returns-in-None-clause-way

@@ -1,5 +1,5 @@
 use Rattle.wrap_names.specs.Renames.{cleared}
-use Rattle.wrap_names.proofs.Moving.{are_live, stand_of, still_can, move_done}
+use Rattle.wrap_names.proofs.Moving.{are_live, stand_of, still_can, move_done, move_tallied}
 use Rattle.wrap_names.proofs.rename.tell_and_move.Goals as goal
 
 pub tell_ends-requires-clause-stands : goal.tell_ends-requires-clause-stands
@@ -31,6 +31,14 @@ move_name-requires g c = (
 pub returns-clause-stands : goal.returns-clause-stands
 returns-clause-stands g c A can = move_done _ c.args.table.now A c.args.name.now c.args.to_name.now c.args.ends.now can
     c.args.time _ _ (c.in_ok-move_name.ensures.stands
+    (cleared A c.args.ends.now.to.index c.args.to_name.now c.args.ends.now.over c.args.time)
+    (c.in_ok-make_way.ensures.way A c.args.name.now (still_can _ c.args.table.now A c.args.name.now
+    c.args.to_name.now c.args.ends.now can _ c.in_ok-tell_ends.ensures.same)))
+
+pub returns-clause-tallied : goal.returns-clause-tallied
+returns-clause-tallied g c A can =
+    move_tallied _ c.args.table.now A c.args.name.now c.args.to_name.now c.args.ends.now can
+    c.args.time c.move_name.new.table (c.in_ok-move_name.ensures.tallied
     (cleared A c.args.ends.now.to.index c.args.to_name.now c.args.ends.now.over c.args.time)
     (c.in_ok-make_way.ensures.way A c.args.name.now (still_can _ c.args.table.now A c.args.name.now
     c.args.to_name.now c.args.ends.now can _ c.in_ok-tell_ends.ensures.same)))

@@ -5,7 +5,8 @@ use Rattle.wrap_names.proofs.MoveTests.{names_told}
 use Rattle.wrap_names.proofs.replace.has_names.Goals as goal
 
 pub attr_of-requires : goal.attr_of-requires
-attr_of-requires g c = live_node _ c.args.table.now c.args.at.now.index c.args.at.now.handle c.requires.stands c.requires.live
+attr_of-requires g c =
+    live_node _ c.args.table.now c.args.at.now.index c.args.at.now.handle c.requires.stands c.requires.live
 
 pub returns-clause-names : goal.returns-clause-names
 returns-clause-names g c A k dir = ap (nat_lt 0) (names_told _ c.args.table.now A k c.args.at.now.index

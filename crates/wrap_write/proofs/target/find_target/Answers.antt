@@ -8,4 +8,4 @@ returns-in_default-clause-found g c A k =
 pub returns-clause-found : goal.returns-clause-found
 returns-clause-found g c A k =
     target_seen _ c.args.table.now A k c.args.node.now c.in-Some.at c.in_ok-attr.attr c.in-Some.ensures
-    c.in_ok-attr.ensures.seen
+    (c.in_ok-attr.ensures.seen A k)

@@ -1,35 +1,21 @@
 use Rattle.std.proofs.Common.{length}
-use Rattle.nfs2_types.specs.Call as calls
 use Rattle.wrap_write.specs.Targets.{write_tests}
-use Rattle.wrap_write.proofs.TargetFacts.{write_refusals, write_stale, stale_found, call_refused, call_found}
+use Rattle.wrap_write.proofs.TargetFacts.{call_stale, call_refused, call_found}
 use Rattle.wrap_write.proofs.target.to_write.Goals as goal
 
-pub returns-in_default-clause-found : goal.returns-in_default-clause-found
-returns-in_default-clause-found g c A k = write_stale A c.args.limits.now c.args.file.now c.args.offset c.args.bytes.now
-    (stale_found c.args.limits.now c.requires.within _ c.args.table.now c.args.file.now c.in_ok-target.field-0
-    c.in_ok-target.ensures.found
-    c.in_default.is A k)
+pub returns-in-Err-clause-found : goal.returns-in-Err-clause-found
+returns-in-Err-clause-found g c A k = call_stale A c.args.table.now.rows.items c.args.file.now
+    (λ e. write_tests A c.args.limits.now e c.args.offset (length c.args.bytes.now))
+    c.in_ok-target.field-0 (c.in_ok-target.ensures.found A k) c.in-Err.refused c.in-Err.is
 
-pub returns-in-Some-2-clause-found : goal.returns-in-Some-2-clause-found
-returns-in-Some-2-clause-found g c A k =
-    call_refused c.args.limits.now c.requires.within _ c.args.table.now c.args.file.now c.in_ok-target.field-0
-    c.in_ok-target.ensures.found
-    c.in-Some.target c.in-Some.is _ c.in_ok-target.ensures.same
-    (calls.write c.args.file.now c.args.offset c.args.bytes.now)
-    (λ A e. write_tests A c.args.limits.now e c.args.offset (length c.args.bytes.now))
-    (λ A k. write_refusals A c.args.limits.now c.args.table.now.rows.items c.args.file.now c.in-Some.target k
-    c.args.offset c.args.bytes.now)
-    c.in_ok-refused.field-0 c.in_ok-refused.ensures.refused A k
-    c.in-Some-2.refused c.in-Some-2.is
+pub returns-in-Some-clause-found : goal.returns-in-Some-clause-found
+returns-in-Some-clause-found g c A k = call_refused A c.args.table.now.rows.items c.args.file.now
+    (λ e. write_tests A c.args.limits.now e c.args.offset (length c.args.bytes.now))
+    c.in_ok-target.field-0 (c.in_ok-target.ensures.found A k) c.in-Ok.target c.in-Ok.is
+    _ (c.no_write.ensures A _ k.tallied) c.in-Some.refused c.in-Some.is
 
 pub returns-in-None-clause-found : goal.returns-in-None-clause-found
-returns-in-None-clause-found g c A k =
-    call_found c.args.limits.now c.requires.within _ c.args.table.now c.args.file.now c.in_ok-target.field-0
-    c.in_ok-target.ensures.found
-    c.in-Some.target c.in-Some.is _ c.in_ok-target.ensures.same
-    (calls.write c.args.file.now c.args.offset c.args.bytes.now)
-    (λ A e. write_tests A c.args.limits.now e c.args.offset (length c.args.bytes.now))
-    (λ A k. write_refusals A c.args.limits.now c.args.table.now.rows.items c.args.file.now c.in-Some.target k
-    c.args.offset c.args.bytes.now)
-    c.in_ok-refused.field-0 c.in_ok-refused.ensures.refused A k
-    c.in-None.is
+returns-in-None-clause-found g c A k = call_found A c.args.table.now.rows.items c.args.file.now
+    (λ e. write_tests A c.args.limits.now e c.args.offset (length c.args.bytes.now))
+    c.in_ok-target.field-0 (c.in_ok-target.ensures.found A k) c.in-Ok.target c.in-Ok.is
+    _ (c.no_write.ensures A _ k.tallied) c.in-None.is

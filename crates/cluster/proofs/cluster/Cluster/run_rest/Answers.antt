@@ -8,9 +8,18 @@ returns-in_default-clause-steps g c =
     let is = c.self.view_is in
     let next : c.self.inside.events + 1 ≡ suc c.self.inside.events = omega arith in
     quiet_steps c.args.self.now _ _ c.args.table.now c.args.downs.now.items c.new.result.items
-    (ap (λ (k : Kept). k.limits.f) (sym is) ∙ c.self.invariant.one) (ap (λ (k : Kept). k.place) (sym is) ∙ c.in_default.is)
-    (ap (λ n. let x : Kept = record { limits = c.self.inside.limits; requests = c.self.inside.requests.items; place = c.self.inside.place; events = n } in x) next
-    ∙ ap (λ (k : Kept). let x : Kept = record { limits = k.limits; requests = k.requests; place = k.place; events = suc k.events } in x) is) c.new.ensures.items
+    (ap (λ (k : Kept). k.limits.f) (sym is) ∙ c.self.invariant.one)
+    (ap (λ (k : Kept). k.place) (sym is) ∙ c.in_default.is)
+    (ap (λ n. let x : Kept =
+    record {
+      limits = c.self.inside.limits;
+      requests = c.self.inside.requests.items;
+      place = c.self.inside.place;
+      events = n;
+    } in x) next
+    ∙ ap (λ (k : Kept). let x : Kept =
+    record { limits = k.limits; requests = k.requests; place = k.place; events = suc k.events } in
+    x) is) c.new.ensures.items
 
 pub returns-clause-steps : goal.returns-clause-steps
 returns-clause-steps g c =

@@ -1,0 +1,21 @@
+use Rattle.node_changes.proofs.PairRows.{row_changes, changes_counted}
+use Rattle.node_changes.proofs.TallyLaws.{keeps_both, still_shifts, shifts}
+use Rattle.node_changes.proofs.rows.change_rows.Goals as goal
+
+pub shift_used-requires-clause-fits : goal.shift_used-requires-clause-fits
+shift_used-requires-clause-fits c = (still_shifts c.args.goes c.args.comes
+    (keeps_both c.touch_row.ensures.tally c.change_row.ensures.tally) c.requires.count).fits
+
+pub shift_used-requires-clause-has : goal.shift_used-requires-clause-has
+shift_used-requires-clause-has c = (still_shifts c.args.goes c.args.comes
+    (keeps_both c.touch_row.ensures.tally c.change_row.ensures.tally) c.requires.count).has
+
+pub returns : goal.returns
+returns c = record {
+  changed = changes_counted c.shift_used.ensures
+      (row_changes c.args.table.now c.touch_row.new.table c.change_row.new.table c.args.dir c.args.index
+      c.args.time c.requires.apart c.touch_row.ensures.row c.change_row.ensures.row c.touch_row.ensures.by_handle
+      c.change_row.ensures.by_handle);
+  tally = shifts c.args.goes c.args.comes (keeps_both c.touch_row.ensures.tally c.change_row.ensures.tally)
+      c.shift_used.ensures;
+}

@@ -1,0 +1,10 @@
+pub mod Drops
+pub mod Links
+pub mod Moves
+pub mod NameRows
+pub mod News
+pub mod Objects
+pub mod Puts
+pub mod Rows
+pub mod Settings
+pub mod Tallies

@@ -1,0 +1,50 @@
+//! SYMLINK (RFC 1094, 2.2.14).
+
+ghost use Rattle.std.specs.Prelude.{◌≡◌, true, List, IfOk};
+ghost use Rattle.nfs2_types.specs.Call.{call_fits};
+ghost use Rattle.nfs2_types.specs.Call as calls;
+ghost use Rattle.abs_model.specs.declared.entry.Entry.{Entry};
+ghost use Rattle.conf_map.specs.Stands.{StandsValid};
+ghost use Rattle.conf_map.specs.Performs.{CanPerform, Performs};
+ghost use Rattle.conf_map.specs.Notice.{Watched};
+
+use crate::make::tell_and_add;
+use crate::new_attr::attr_for;
+use crate::place::place_of;
+use conf_map::Modify;
+use nfs2_types::{Cred, Handle, Limits, NfsResult, Sattr, Time};
+use node_changes::NewObject;
+use server_trait::{ConfTable, FileServer, Srv, WrapErr};
+
+/// Makes a link with its text.
+/// Tells `saver` of each object before the first change. After `Down`, where the server failed, and after `NoMemory`
+/// server and table stand for nothing.
+pub fn symlink<M: Modify>(
+    server: &mut Srv,
+    table: &mut ConfTable,
+    limits: &Limits,
+    cred: &Cred,
+    time: Time,
+    dir: &Handle,
+    name: &[u8],
+    text: &[u8],
+    sattr: &Sattr,
+    saver: &mut M,
+) -> Result<NfsResult, WrapErr>
+    requires can { CanPerform limits.now (state server.old) table.old time }
+    requires fits { call_fits (calls.symlink dir.now name.now text.now sattr.now) ≡ true }
+    ensures performs { IfOk result (λ r. (A : List Entry) →
+        StandsValid limits.now (state server.old).tree table.old A →
+        Performs M.told M.noticed limits.now cred.now time (calls.symlink dir.now name.now text.now sattr.now)
+        A r (state server.new).tree table.new saver.old saver.new) }
+    ensures watched { Watched (state server.old) (state server.new) result }
+{
+    let place = match place_of(server, table, limits, dir, name, text.len() as u32)? {
+        Ok(place) => place,
+        Err(refused) => return Ok(NfsResult::Refused(refused)),
+    };
+    let new = NewObject::Link { text };
+    let attr = attr_for(&new, cred, time, sattr);
+    tell_and_add(server, table, &place, name, &new, &attr, saver)?;
+    Ok(NfsResult::Done)
+}

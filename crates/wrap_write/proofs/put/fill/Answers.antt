@@ -1,5 +1,0 @@
-use Rattle.wrap_write.proofs.Writings.{no_gap}
-use Rattle.wrap_write.proofs.put.fill.Goals as goal
-
-pub returns-clause-filled : goal.returns-clause-filled
-returns-clause-filled g c = no_gap _ c.args.file.now c.args.size c.args.offset c.requires c.if-size-offset.false
