@@ -28,7 +28,8 @@ use Rattle.wrap_read.specs.Reads.{is_read_call}
 
 -- CALLS THAT CHANGE NOTHING
 
-pub no_effect : (A : List Entry) (limits : Limits) (cred : Cred) (t : Time) (call : Call) → changes A cred t call ≡ [] → effect A limits cred t call ≡ []
+pub no_effect : (A : List Entry) (limits : Limits) (cred : Cred) (t : Time) (call : Call) →
+    changes A cred t call ≡ [] → effect A limits cred t call ≡ []
 unfolding effect
 no_effect A limits cred t call none = by (is_some (first_of (refusals A limits call)))
   where
@@ -36,11 +37,13 @@ no_effect A limits cred t call none = by (is_some (first_of (refusals A limits c
     by true = refl
     by false = none
 
-no_change : (A : List Entry) (limits : Limits) (cred : Cred) (t : Time) (call : Call) → changes A cred t call ≡ [] → array_after A limits cred t call ≡ A
+no_change : (A : List Entry) (limits : Limits) (cred : Cred) (t : Time) (call : Call) →
+    changes A cred t call ≡ [] → array_after A limits cred t call ≡ A
 unfolding array_after
 no_change A limits cred t call none = ap (λ cs. changed cs A) (no_effect A limits cred t call none)
 
-no_changes : (A : List Entry) (cred : Cred) (t : Time) (call : Call) → is_read_call call ≡ true → changes A cred t call ≡ []
+no_changes : (A : List Entry) (cred : Cred) (t : Time) (call : Call) → is_read_call call ≡ true →
+    changes A cred t call ≡ []
 no_changes A cred t null h = refl
 no_changes A cred t root h = refl
 no_changes A cred t write_cache h = refl
@@ -52,12 +55,15 @@ no_changes A cred t (read_dir dir cookie count) h = refl
 no_changes A cred t (stat_fs node) h = refl
 no_changes A cred t _ h = absurd (let bad : false ≡ true = h in cc)
 
-pub read_array : (A : List Entry) (limits : Limits) (cred : Cred) (t : Time) (call : Call) → is_read_call call ≡ true → array_after A limits cred t call ≡ A
+pub read_array : (A : List Entry) (limits : Limits) (cred : Cred) (t : Time) (call : Call) →
+    is_read_call call ≡ true → array_after A limits cred t call ≡ A
 read_array A limits cred t call h = no_change A limits cred t call (no_changes A cred t call h)
 
-pub read_told : (A : List Entry) (limits : Limits) (cred : Cred) (t : Time) (call : Call) → is_read_call call ≡ true → told A limits cred t call ≡ []
+pub read_told : (A : List Entry) (limits : Limits) (cred : Cred) (t : Time) (call : Call) →
+    is_read_call call ≡ true → told A limits cred t call ≡ []
 unfolding told
-read_told A limits cred t call h = ap (map (λ c. c.index)) (no_effect A limits cred t call (no_changes A cred t call h))
+read_told A limits cred t call h = ap (map (λ c. c.index))
+    (no_effect A limits cred t call (no_changes A cred t call h))
 
 -- WHAT IS REFUSED HAS A SPELLING
 
@@ -65,25 +71,30 @@ read_told A limits cred t call h = ap (map (λ c. c.index)) (no_effect A limits 
 abbrev is_error : Refusal → Bool
 is_error r = not (r.stat.0 == 0)
 
-all_errors : (A : List Entry) (limits : Limits) (call : Call) → list_all is_error (refusals A limits call) ≡ true
+all_errors : (A : List Entry) (limits : Limits) (call : Call) →
+    list_all is_error (refusals A limits call) ≡ true
 all_errors A limits null = refl
 all_errors A limits _ = refl
 
 first_error : (rs : List Refusal) → list_all is_error rs ≡ true → (s : Stat) → first_of rs ≡ Some s → s.0 ≢ 0
 first_error [] h s e = absurd (let bad : None ≡ Some s = e in cc)
-first_error (r ∷ rs) h s e = let k = and_parts (is_error r) (list_all is_error rs) h in by r.holds k.0 (first_error rs k.1 s) e
+first_error (r ∷ rs) h s e = let k = and_parts (is_error r) (list_all is_error rs) h in
+    by r.holds k.0 (first_error rs k.1 s) e
   where
-    by : (b : Bool) → is_error r ≡ true → (first_of rs ≡ Some s → s.0 ≢ 0) → cond b (Some r.stat) (first_of rs) ≡ Some s → s.0 ≢ 0
+    by : (b : Bool) → is_error r ≡ true → (first_of rs ≡ Some s → s.0 ≢ 0) →
+        cond b (Some r.stat) (first_of rs) ≡ Some s → s.0 ≢ 0
     by true h rest e =
         let same : r.stat ≡ s = (let h : Some r.stat ≡ Some s = e in cc) in
         subst (λ (x : Stat). x.0 ≢ 0) same (eqb-false r.stat.0 0 (not-true (r.stat.0 == 0) h))
     by false h rest e = rest e
 
-refused_spelled : (rs : List Refusal) (other : NfsResult) → list_all is_error rs ≡ true → (first_of rs ≡ None → HasSpelling other) →
+refused_spelled : (rs : List Refusal) (other : NfsResult) → list_all is_error rs ≡ true →
+    (first_of rs ≡ None → HasSpelling other) →
     HasSpelling (elim (first_of rs) [ Some s ↦ Result.Refused s | None ↦ other ])
 refused_spelled rs other errors spelled = by (first_of rs) refl
   where
-    by : (o : Option Stat) → first_of rs ≡ o → HasSpelling (elim o [ Some s ↦ Result.Refused s | None ↦ other ])
+    by : (o : Option Stat) → first_of rs ≡ o → HasSpelling
+        (elim o [ Some s ↦ Result.Refused s | None ↦ other ])
     by (Some s) e = first_error rs errors s e
     by None e = spelled e
 
@@ -97,20 +108,25 @@ short_name name h =
     let a = and_parts (not (is_bad name) && nat_le (length name) 255) (not (is_dot name)) h in
     leb-true (length name) 255 (and_parts (not (is_bad name)) (nat_le (length name) 255) a.0).1
 
-numbered_short : (c : ℕ) (rows : List NameRow) → list_all (λ (r : NameRow). is_name r.name) rows ≡ true → All IsShort (numbered c rows)
+numbered_short : (c : ℕ) (rows : List NameRow) → list_all (λ (r : NameRow). is_name r.name) rows ≡ true →
+    All IsShort (numbered c rows)
 numbered_short c [] h = All-nil IsShort
 numbered_short c (r ∷ rs) h =
     let k = and_parts (is_name r.name) (list_all (λ (r : NameRow). is_name r.name) rs) h in
-    All-cons IsShort (record { fileid = r.index + 1; name = r.name; cookie = c }) (numbered (c + 1) rs) (short_name r.name k.0) (numbered_short (c + 1) rs k.1)
+    All-cons IsShort (record { fileid = r.index + 1; name = r.name; cookie = c }) (numbered (c + 1) rs)
+    (short_name r.name k.0) (numbered_short (c + 1) rs k.1)
 
 drop_short : (n : ℕ) (es : List ListEntry) → All IsShort es → All IsShort (drop n es)
-drop_short n es h k d below = let l = length-drop n es in subst IsShort (sym (get_or-drop n es k d)) (h (n + k) d (omega arith))
+drop_short n es h k d below = let l = length-drop n es in
+    subst IsShort (sym (get_or-drop n es k d)) (h (n + k) d (omega arith))
 
 fitting_short : (room : ℕ) (es : List ListEntry) → All IsShort es → All IsShort (fitting room es)
 fitting_short room [] h = h
 fitting_short room (e ∷ es) h =
-    elim (nat_le (room_of e) room) as (λ b. All IsShort (if b then e ∷ fitting (room - room_of e) es else [])) [
-      | true ↦ All-cons IsShort e (fitting (room - room_of e) es) (All-head IsShort e es h) (fitting_short (room - room_of e) es (All-tail IsShort e es h))
+    elim (nat_le (room_of e) room) as
+    (λ b. All IsShort (if b then e ∷ fitting (room - room_of e) es else [])) [
+      | true ↦ All-cons IsShort e (fitting (room - room_of e) es) (All-head IsShort e es h)
+          (fitting_short (room - room_of e) es (All-tail IsShort e es h))
       | false ↦ All-nil IsShort
     ]
 
@@ -118,7 +134,8 @@ module _ (limits : Limits) (A : List Entry) (valid : Valid limits A) where
   rows_named : (d : ℕ) → list_all (λ (r : NameRow). is_name r.name) (names_of (entry_at A d)) ≡ true
   rows_named d = elim (cases_lt d (length A)) [
     | inl below ↦ (fits_parts (entry_at A d) (valid.fits d below)).named
-    | inr past ↦ ap (λ (e : Entry). list_all (λ (r : NameRow). is_name r.name) (names_of e)) (get_or_past A d null_entry past)
+    | inr past ↦ ap (λ (e : Entry). list_all (λ (r : NameRow). is_name r.name) (names_of e))
+        (get_or_past A d null_entry past)
   ]
 
   listing_short : (d : ℕ) → All IsShort (listing A d)
@@ -126,31 +143,40 @@ module _ (limits : Limits) (A : List Entry) (valid : Valid limits A) where
       let names : List ListEntry = numbered 3 (names_of (entry_at A d)) in
       let parent : ListEntry = record { fileid = parent A d + 1; name = name_dots; cookie = 2 } in
       let itself : ListEntry = record { fileid = d + 1; name = name_dot; cookie = 1 } in
-      All-cons IsShort itself (parent ∷ names) (omega arith) (All-cons IsShort parent names (omega arith) (numbered_short 3 (names_of (entry_at A d)) (rows_named d)))
+      All-cons IsShort itself (parent ∷ names) (omega arith)
+      (All-cons IsShort parent names (omega arith)
+      (numbered_short 3 (names_of (entry_at A d)) (rows_named d)))
 
-  text_short : (i : ℕ) → i < length A → is_link (entry_at A i) ≡ true → length (bytes_of (entry_at A i)) ≤ 1024
+  text_short : (i : ℕ) → i < length A → is_link (entry_at A i) ≡ true →
+      length (bytes_of (entry_at A i)) ≤ 1024
   text_short i below link =
-      let most = leb-true (length (bytes_of (entry_at A i))) (most_bytes (entry_at A i)) (fits_parts (entry_at A i) (valid.fits i below)).bytes in
+      let most = leb-true (length (bytes_of (entry_at A i))) (most_bytes (entry_at A i))
+      (fits_parts (entry_at A i) (valid.fits i below)).bytes in
       let same : most_bytes (entry_at A i) ≡ 1024 = ap (λ b. if b then 1024 else 1048576) link in
       omega (arith, most, same)
 
 -- EACH RESULT HAS A SPELLING
 
 module _ (limits : Limits) (A : List Entry) (valid : Valid limits A) (cred : Cred) (t : Time) where
-  answer_spelled : (call : Call) → first_of (refusals A limits call) ≡ None → HasSpelling (answer A (array_after A limits cred t call) limits call)
+  answer_spelled : (call : Call) → first_of (refusals A limits call) ≡ None →
+      HasSpelling (answer A (array_after A limits cred t call) limits call)
   answer_spelled (read_link node) none =
       let f = none_holds (refusals A limits (read_link node)) none in
-      text_short limits A valid (at A node) (live_at A node f.0).below (not-false (is_link (entry_at A (at A node))) f.1.0)
+      text_short limits A valid (at A node) (live_at A node f.0).below
+      (not-false (is_link (entry_at A (at A node))) f.1.0)
   answer_spelled (read file offset count) none =
-      let n = length-take (min count 8192) (drop offset (bytes_of (entry_at A (at A file)))) in omega (arith, n)
+      let n = length-take (min count 8192) (drop offset (bytes_of (entry_at A (at A file)))) in
+      omega (arith, n)
   answer_spelled (read_dir dir cookie count) none =
       let rest = λ (B : List Entry). drop cookie (listing B (at A dir)) in
       fitting_short (min count 8192 - 8) (rest (array_after A limits cred t (read_dir dir cookie count)))
-      (subst (λ (B : List Entry). All IsShort (rest B)) (sym (no_change A limits cred t (read_dir dir cookie count) refl))
+      (subst (λ (B : List Entry). All IsShort (rest B))
+      (sym (no_change A limits cred t (read_dir dir cookie count) refl))
       (drop_short cookie (listing A (at A dir)) (listing_short limits A valid (at A dir))))
   answer_spelled _ none = tt
 
   pub result_spelled : (call : Call) → HasSpelling (result_of A limits cred t call)
   unfolding result_of
   result_spelled call =
-      refused_spelled (refusals A limits call) (answer A (array_after A limits cred t call) limits call) (all_errors A limits call) (answer_spelled call)
+      refused_spelled (refusals A limits call) (answer A (array_after A limits cred t call) limits call)
+      (all_errors A limits call) (answer_spelled call)

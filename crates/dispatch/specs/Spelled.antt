@@ -1,4 +1,5 @@
--- The answer to a message by the grammars of headers and of arguments (RFC 5531, 9; RFC 1094, 2.2 and appendix A).
+-- The answer to a message by the grammars of headers and of arguments (RFC 5531, 9; RFC 1094, 2.2 and
+-- appendix A).
 -- Nothing here reads the bytes: it is said what a message is spelled of, and what is then answered.
 use Rattle.std.specs.Prelude.{◌≡◌, ◌≢◌, ◌≤◌, ◌++◌, ℕ, List, length, Some}
 use Rattle.nfs2_types.specs.declared.Limits.{Limits}
@@ -20,7 +21,8 @@ use Rattle.abs_model.specs.declared.Entry.{Entry}
 use Rattle.abs_model.specs.Array.{handle_at}
 use Rattle.dispatch.specs.Answer.{Answer, stays, refused, accepted}
 
--- the header of a call (CALL is 0) of RPC version 2, of a procedure of this program in this version, 0 to the last,
+-- the header of a call (CALL is 0) of RPC version 2, of a procedure of this program in this version, 0 to the
+-- last,
 -- whose credential names this caller
 pub record CallsProgram (prog vers last : ℕ) (h : Header) (caller : Cred) : Type 0 where
   pub kind : h.kind ≡ 0
@@ -46,7 +48,8 @@ IsNoCall bytes = (front : HasHeader bytes) → front.says.kind ≢ 0
 abbrev pub SpellNone : {C : Type 0} → Grammar C → List ℕ → Type 0
 SpellNone {C} form bytes = (call : C) → Spells form call bytes → ⊥
 
--- this is the answer to a message that is no call, whose header is refused, or that is a call of NFS or of MOUNT
+-- this is the answer to a message that is no call, whose header is refused, or that is a call of NFS or of
+-- MOUNT
 pub record IsAnswer (A : List Entry) (limits : Limits) (t : Time) (bytes : List ℕ)
     (a : Answer) : Type 0 where
   pub silent : IsNoCall bytes → a ≡ stays A words.Silent

@@ -2,16 +2,16 @@
 
 ghost use Rattle.std.specs.Prelude.{◌≡◌, ◌≤◌, ◌++◌, true, List, IfOk};
 ghost use Rattle.nfs2_types.specs.Call.{call_of, call_fits};
-ghost use Rattle.nfs2_types.specs.Times.{is_time};
 ghost use Rattle.nfs2_types.specs.declared.Word.TheVariants.{Reply};
 ghost use Rattle.xdr_core.specs.Grammar.{reads_all};
 ghost use Rattle.rpc_core.specs.Reply.{success_text};
 ghost use Rattle.nfs2_args.specs.Forms.{args_form};
 ghost use Rattle.nfs2_results.specs.Spelling.{result_text, HasSpelling};
 ghost use Rattle.abs_model.specs.declared.Entry.{Entry};
-ghost use Rattle.conf_map.specs.Stands.{StandsValid, AreWithin, HasRoom};
+ghost use Rattle.conf_map.specs.Performs.{CanPerform, Performs};
+ghost use Rattle.conf_map.specs.Stands.{StandsValid};
 ghost use Rattle.conf_map.specs.Notice.{Watched};
-ghost use Rattle.dispatch.specs.Steps.{Performs, Answers};
+ghost use Rattle.dispatch.specs.Steps.{Answers};
 ghost use Rattle.dispatch.specs.Answer.{by_args};
 
 use crate::reply::{refuse, written};
@@ -48,10 +48,7 @@ fn procedure<M: Modify>(
     args: &Args,
     saver: &mut M,
 ) -> Result<NfsResult, WrapErr>
-    requires stands { (A : List Entry) × StandsValid limits.now (state server.old).tree table.old A }
-    requires within { AreWithin limits.now }
-    requires room { HasRoom limits.now (state server.old).limits }
-    requires time { is_time time ≡ true }
+    requires can { CanPerform limits.now (state server.old) table.old time }
     requires fits { call_fits (call_of args.now) ≡ true }
     ensures performs { IfOk result (λ r. (A : List Entry) → StandsValid limits.now (state server.old).tree table.old A →
         Performs M.told M.noticed limits.now cred.now time (call_of args.now) A r
@@ -85,10 +82,7 @@ pub fn nfs_word<M: Modify>(
     args: &[u8],
     saver: &mut M,
 ) -> Result<Word, WrapErr>
-    requires stands { (A : List Entry) × StandsValid limits.now (state server.old).tree table.old A }
-    requires within { AreWithin limits.now }
-    requires room { HasRoom limits.now (state server.old).limits }
-    requires time { is_time time ≡ true }
+    requires can { CanPerform limits.now (state server.old) table.old time }
     requires proc { proc ≤ 17 }
     ensures answers { IfOk result (λ word. (A : List Entry) → StandsValid limits.now (state server.old).tree table.old A →
         Answers M.told M.noticed limits.now A

@@ -8,10 +8,12 @@ use Rattle.dispatch.proofs.Calls.{if_ok_map}
 use Rattle.dispatch.proofs.mount.mount_word.Goals as goal
 
 pub returns-in-Err : goal.returns-in-Err
-returns-in-Err c = if_ok_map _ _ c.refuse.result (λ word e. λ tree A k. e ∙ ap (mount_word A c.args.xid) (sym c.in-Err.ensures.all)) c.refuse.ensures
+returns-in-Err c = if_ok_map _ _ c.refuse.result
+    (λ word e. λ tree A k. e ∙ ap (mount_word A c.args.xid) (sym c.in-Err.ensures.all)) c.refuse.ensures
 
 pub returns-in-Ok : goal.returns-in-Ok
 returns-in-Ok c =
     if_ok_map _ _ c.accept.result (λ word e. λ tree A k.
-    e ∙ ap (λ (root : List ℕ). Reply (success_text c.args.xid ++ mount_text (call_of c.in-Ok.args) root)) (c.root_of.ensures tree A k)
+    e ∙ ap (λ (root : List ℕ). Reply (success_text c.args.xid ++ mount_text (call_of c.in-Ok.args) root))
+    (c.root_of.ensures tree A k)
     ∙ ap (mount_word A c.args.xid) (sym c.in-Ok.ensures.all)) c.accept.ensures

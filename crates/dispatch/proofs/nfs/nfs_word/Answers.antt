@@ -9,8 +9,9 @@ use Rattle.dispatch.proofs.nfs.nfs_word.Goals as goal
 
 pub accept-requires : goal.accept-requires
 accept-requires g c =
-    let p = c.in_ok-outcome-in-Ok.ensures.performs c.requires.stands.0 c.requires.stands.1 in
-    subst HasSpelling (sym p.result_is) (result_spelled c.args.limits.now c.requires.stands.0 c.requires.stands.1.valid c.args.cred.now c.args.time (call_of c.in-Ok.args))
+    let p = c.in_ok-outcome-in-Ok.ensures.performs c.requires.can.array c.requires.can.stands in
+    subst HasSpelling (sym p.result_is)
+    (result_spelled c.args.limits.now c.requires.can.array c.requires.can.stands.valid c.args.cred.now c.args.time (call_of c.in-Ok.args))
 
 pub returns-in-Err-clause-answers : goal.returns-in-Err-clause-answers
 returns-in-Err-clause-answers g c =
@@ -24,5 +25,6 @@ returns-in_ok-outcome-in-Ok-clause-answers g c =
     (if_ok_map _ _ c.accept.result (λ word e. λ A sv.
     performs_answers c.args.xid (call_of c.in-Ok.args) c.in_ok-outcome-in-Ok.outcome word
     (ap (by_args A c.args.limits.now c.args.time c.args.xid c.args.cred.now) c.in-Ok.ensures.all)
-    (stays_valid c.args.limits.now A c.args.cred.now c.args.time (call_of c.in-Ok.args) c.requires.time c.in-Ok.ensures.fits sv.valid)
+    (stays_valid c.args.limits.now A c.args.cred.now c.args.time
+    (call_of c.in-Ok.args) c.requires.can.time c.in-Ok.ensures.fits sv.valid)
     (c.in_ok-outcome-in-Ok.ensures.performs A sv) e) c.accept.ensures)
