@@ -25,8 +25,8 @@ last_time requests = option_map (λ r. r.time) (slice_get requests (length reque
 abbrev pub falls : Time → Option Time → Bool
 falls time last = option_map_or (is_before time) last false
 
--- A request is wrong where its time falls or there are too many; it waits where it comes at a checkpoint, since these are
--- not built yet.
+-- A request is wrong where its time falls or there are too many; it waits where it comes at a checkpoint, since
+-- these are not built yet.
 abbrev pub judge_request : ℕ → ℕ → Option Time → Time → Verdict
 judge_request k asked last time =
     if falls time last || nat_le 1000000 asked then Wrong

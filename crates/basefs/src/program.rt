@@ -48,9 +48,9 @@ pub fn basefs<S: Source, O: Sink, N: Link, C: Clock>(
         let log = log_of (λ s. (⟦<Srv as FileServer>⟧.state s).limits) bench.old.servers.items bytes in
         (result ≡ status_of log.stop) ⊎ IsFault result) }
 
-    // Either nothing was started and written, and the bench is as it was; or the replica was started, the records of the log were
-    // stepped up to the one that stops the run, each reply among its lines is the service's at its place,
-    // and the server of the replica, if that is live, holds exactly the array of the service at the
+    // Either nothing was started and written, and the bench is as it was; or the replica was started, the records of
+    // the log were stepped up to the one that stops the run, each reply among its lines is the service's at its
+    // place, and the server of the replica, if that is live, holds exactly the array of the service at the
     // replica's place.
     ensures run { IsReplay words.now → Replayed ⟦<Srv as FileServer>⟧.state
         (setting (S.left input.old) (O.written out.old)

@@ -438,8 +438,8 @@ const TWO_REPLIES: &str = "\
     down 0\n\
     at 0 down\n";
 
-/// The start makes two directories. The third request of the first RunAll makes one more, at which the server fails. The
-/// requests behind it, and the second RunAll, print nothing.
+/// The start makes two directories. The third request of the first RunAll makes one more, at which the server fails.
+/// The requests behind it, and the second RunAll, print nothing.
 #[test]
 fn a_server_that_fails_in_mid_stream(rt: HostRuntime) -> Result<(), Fail> {
     let log = log_of(

@@ -15,8 +15,8 @@ use server_trait::{ConfTable, FaultPoint, Srv, WrapErr};
 use std::alloc::Global;
 use std::marker::Model;
 
-/// A cluster of one replica: its requests, the place of the replica unless that is down, and the number of records stepped.
-/// It keeps no array: what the replica's server and table stand for is the replica's array.
+/// A cluster of one replica: its requests, the place of the replica unless that is down, and the number of records
+/// stepped. It keeps no array: what the replica's server and table stand for is the replica's array.
 #[derive(Drop)]
 pub struct Cluster {
     limits: Limits,
@@ -135,8 +135,8 @@ impl Cluster {
         }
     }
 
-    /// Steps a record, and gives the lines that it prints. A record that makes the server fail takes the replica down, and
-    /// puts the fault point into `downs`. After want of memory the cluster can only be dropped.
+    /// Steps a record, and gives the lines that it prints. A record that makes the server fail takes the replica down,
+    /// and puts the fault point into `downs`. After want of memory the cluster can only be dropped.
     pub fn step(
         &mut self,
         alloc: Global,

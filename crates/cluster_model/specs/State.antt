@@ -1,5 +1,5 @@
 -- The state of a cluster.
-use Rattle.std.specs.Prelude.{ℕ, ◌≤◌, Bool, true, false, cond, List, [], ◌∷◌, Option, Some, None, bytes_eq, ◌==◌, nat_le, count_by}
+use Rattle.std.specs.Prelude.{ℕ, Bool, true, false, cond, List, [], ◌∷◌, Option, Some, None, bytes_eq, ◌==◌, nat_le}
 use Rattle.std.specs.List.{list_any}
 use Rattle.abs_model.specs.declared.Entry.{Entry}
 use Rattle.cluster_model.specs.declared.request.Request.{Request}
@@ -93,10 +93,6 @@ is_harmed (Rebuilding b) = true
 -- the same of a replica
 abbrev pub is_unsound : Replica → Bool
 is_unsound x = is_harmed x.condition
-
--- Fair says of a state: at most f replicas are unsound
-abbrev pub IsFair : Service → State → Type 0
-IsFair S s = count_by is_unsound s.replicas ≤ S.f
 
 -- Votes
 

@@ -17,8 +17,8 @@ use rpc_core::{CallHead, NFS, read_call};
 use server_trait::{ConfTable, Srv, WrapErr};
 use std::alloc::Global;
 
-/// The reply to the bytes of a request, or silence. It asks the server of this table, tells `saver` of each object before
-/// it changes, and leaves server and table standing for nothing after an error. `Down`: the server failed.
+/// The reply to the bytes of a request, or silence. It asks the server of this table, tells `saver` of each object
+/// before it changes, and leaves server and table standing for nothing after an error. `Down`: the server failed.
 pub fn answer<M: Modify>(
     alloc: Global,
     server: &mut Srv,
@@ -32,7 +32,8 @@ pub fn answer<M: Modify>(
     requires within { AreWithin limits.now }
     requires room { HasRoom limits.now (state server.old).limits }
     requires time { is_time time ≡ true }
-    ensures answers { IfOk result (λ word. (A : List Entry) → StandsValid limits.now (state server.old).tree table.old A →
+    ensures answers { IfOk result (λ word. (A : List Entry) →
+        StandsValid limits.now (state server.old).tree table.old A →
         Answers M.told M.noticed limits.now A (answer_of A limits.now time call.now)
         word (state server.new).tree table.new saver.old saver.new) }
     ensures watched { Watched (state server.old) (state server.new) result }

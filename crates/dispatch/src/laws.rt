@@ -9,7 +9,8 @@ ghost use Rattle.dispatch.specs.Answer.{answer};
 ghost use Rattle.dispatch.specs.Spelled.{IsAnswer};
 
 /// The answer by the grammars: silence where no header of a call begins the message, the refusal of a header that is
-/// refused, and of a call of NFS or of MOUNT its result where its arguments are spelled, and GARBAGE_ARGS where none are.
+/// refused, and of a call of NFS or of MOUNT its result where its arguments are spelled, and GARBAGE_ARGS where none
+/// are.
 pub fn answers_are_spelled()
     ensures { (A : List Entry) (limits : Limits) (t : Time) (bytes : List ℕ) → IsBytes bytes
         → IsAnswer A limits t bytes (answer A limits t bytes) }

@@ -84,7 +84,8 @@ pub fn nfs_word<M: Modify>(
 ) -> Result<Word, WrapErr>
     requires can { CanPerform limits.now (state server.old) table.old time }
     requires proc { proc ≤ 17 }
-    ensures answers { IfOk result (λ word. (A : List Entry) → StandsValid limits.now (state server.old).tree table.old A →
+    ensures answers { IfOk result (λ word. (A : List Entry) →
+        StandsValid limits.now (state server.old).tree table.old A →
         Answers M.told M.noticed limits.now A
         (by_args A limits.now time xid cred.now (reads_all (args_form proc) args.now))
         word (state server.new).tree table.new saver.old saver.new) }

@@ -160,11 +160,11 @@ module _ (s : Server) (table : ConfTable) (A : List Entry) (name to_name : List 
       (touch : (r : ConfEntry) → slice_get table1.rows.items from_i ≡ Some r →
       table2.rows.items ≡ slice_set table1.rows.items from_i (touched time r))
       (by_handle : table2.by_handle ≡ table1.by_handle) where
-    abbrev R1 : List ConfEntry
-    R1 = table1.rows.items
+    abbrev R' : List ConfEntry
+    R' = table1.rows.items
 
-    abbrev R2 : List ConfEntry
-    R2 = table2.rows.items
+    abbrev R'' : List ConfEntry
+    R'' = table2.rows.items
 
     abbrev ro : ConfEntry
     ro = under to_i at_o.0
@@ -186,20 +186,20 @@ module _ (s : Server) (table : ConfTable) (A : List Entry) (name to_name : List 
 
     -- THE SECOND NAME COMES
 
-    rows1 : R1 ≡ slice_set (slice_set R at_i ro) to_i re
+    rows1 : R' ≡ slice_set (slice_set R at_i ro) to_i re
     rows1 = put.rows at_o.0 at_e.0 at_o.2.is_row at_e.2.is_row to_apart
 
-    row1_e : slice_get R1 to_i ≡ Some re
+    row1_e : slice_get R' to_i ≡ Some re
     row1_e = ap (λ l. slice_get l to_i) rows1
         ∙ slice_get-set_same (slice_set R at_i ro) to_i re at_e.0
         (slice_get-set_other R at_i to_i ro to_apart ∙ at_e.2.is_row)
 
-    row1_o : slice_get R1 at_i ≡ Some ro
+    row1_o : slice_get R' at_i ≡ Some ro
     row1_o = ap (λ l. slice_get l at_i) rows1 ∙ slice_get-set_other (slice_set R at_i ro) to_i at_i re
         (λ x. to_apart (sym x))
         ∙ slice_get-set_same R at_i ro at_o.0 at_o.2.is_row
 
-    row1_other : (j : ℕ) → j ≢ to_i → j ≢ at_i → slice_get R1 j ≡ slice_get R j
+    row1_other : (j : ℕ) → j ≢ to_i → j ≢ at_i → slice_get R' j ≡ slice_get R j
     row1_other j not_e not_o = ap (λ l. slice_get l j) rows1 ∙ slice_get-set_other (slice_set R at_i ro) to_i j re not_e
         ∙ slice_get-set_other R at_i j ro not_o
 
@@ -248,18 +248,18 @@ module _ (s : Server) (table : ConfTable) (A : List Entry) (name to_name : List 
 
     -- THE FIRST NAME GOES
 
-    handles1 : (j : ℕ) → handle_at R1 j ≡ handle_at R j
-    handles1 j = elim (one_or_not j to_i) as (λ _. handle_at R1 j ≡ handle_at R j) [
-      | inl x ↦ subst (λ j. handle_at R1 j ≡ handle_at R j) (sym x)
-          (handle_of_row R1 to_i re row1_e ∙ sym (handle_of_row R to_i at_e.0 at_e.2.is_row))
-      | inr not_e ↦ elim (one_or_not j at_i) as (λ _. handle_at R1 j ≡ handle_at R j) [
-        | inl x ↦ subst (λ j. handle_at R1 j ≡ handle_at R j) (sym x)
-            (handle_of_row R1 at_i ro row1_o ∙ sym (handle_of_row R at_i at_o.0 at_o.2.is_row))
-        | inr not_o ↦ same_handle R R1 j (row1_other j not_e not_o)
+    handles1 : (j : ℕ) → handle_at R' j ≡ handle_at R j
+    handles1 j = elim (one_or_not j to_i) as (λ _. handle_at R' j ≡ handle_at R j) [
+      | inl x ↦ subst (λ j. handle_at R' j ≡ handle_at R j) (sym x)
+          (handle_of_row R' to_i re row1_e ∙ sym (handle_of_row R to_i at_e.0 at_e.2.is_row))
+      | inr not_e ↦ elim (one_or_not j at_i) as (λ _. handle_at R' j ≡ handle_at R j) [
+        | inl x ↦ subst (λ j. handle_at R' j ≡ handle_at R j) (sym x)
+            (handle_of_row R' at_i ro row1_o ∙ sym (handle_of_row R at_i at_o.0 at_o.2.is_row))
+        | inr not_o ↦ same_handle R R' j (row1_other j not_e not_o)
       ]
     ]
 
-    live1_d : handle_at R1 from_i ≡ Some d.handle
+    live1_d : handle_at R' from_i ≡ Some d.handle
     live1_d = handles1 from_i ∙ c.from_live
 
     at1_d : (r : ConfEntry) × (n : Node) × IsAt stands1.tree table1 A1 from_i d.handle r n (entry_at A1 from_i)
@@ -275,14 +275,14 @@ module _ (s : Server) (table : ConfTable) (A : List Entry) (name to_name : List 
           ∙ c.from_dir
     ]
 
-    row2_d : (r : ConfEntry) → slice_get R1 from_i ≡ Some r → slice_get R2 from_i ≡ Some (touched time r)
-    row2_d r is = ap (λ l. slice_get l from_i) (touch r is) ∙ slice_get-set_same R1 from_i (touched time r) r is
+    row2_d : (r : ConfEntry) → slice_get R' from_i ≡ Some r → slice_get R'' from_i ≡ Some (touched time r)
+    row2_d r is = ap (λ l. slice_get l from_i) (touch r is) ∙ slice_get-set_same R' from_i (touched time r) r is
 
-    row2_other : (j : ℕ) → j ≢ from_i → slice_get R2 j ≡ slice_get R1 j
+    row2_other : (j : ℕ) → j ≢ from_i → slice_get R'' j ≡ slice_get R' j
     row2_other j ne = ap (λ l. slice_get l j) (touch at1_d.0 at1_d.2.is_row)
-        ∙ slice_get-set_other R1 from_i j (touched time at1_d.0) ne
+        ∙ slice_get-set_other R' from_i j (touched time at1_d.0) ne
 
-    row2_o : (r : ConfEntry) → slice_get R1 at_i ≡ Some r → slice_get R2 at_i ≡ Some (under to_i r)
+    row2_o : (r : ConfEntry) → slice_get R' at_i ≡ Some r → slice_get R'' at_i ≡ Some (under to_i r)
     row2_o r is = row2_other at_i (λ x. c.apart (sym x)) ∙ row1_o ∙ ap (λ r. Some (under to_i r)) (some_same row1_o is)
 
     drops : DropsName stands1.tree table1 A1 from_i name at_i after table2 A2
@@ -310,7 +310,7 @@ module _ (s : Server) (table : ConfTable) (A : List Entry) (name to_name : List 
       nodes = λ q ne. node_at-edited_other added d.handle (with_names (λ m. remove m name)) q ne
           ∙ ap (λ t. node_at t q) is_added;
       rows = record {
-        size = ap length (touch at1_d.0 at1_d.2.is_row) ∙ length-set R1 from_i (touched time at1_d.0);
+        size = ap length (touch at1_d.0 at1_d.2.is_row) ∙ length-set R' from_i (touched time at1_d.0);
         others = λ j not_d _. row2_other j not_d;
       };
       by_handle = by_handle;

@@ -78,8 +78,8 @@ fn add_row(
     Ok(())
 }
 
-/// Makes an object of this generation at a null index, under a new name of a directory, which is written at the moment of
-/// the object's ctime. After an error server and table stand for nothing.
+/// Makes an object of this generation at a null index, under a new name of a directory, which is written at the moment
+/// of the object's ctime. After an error server and table stand for nothing.
 pub fn add_new(
     server: &mut Srv,
     table: &mut ConfTable,

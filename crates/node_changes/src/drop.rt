@@ -59,8 +59,8 @@ fn last_bytes(attr: &NodeAttr) -> u32
     }
 }
 
-/// Takes out a name of a directory, and with its last name the object to which it leads. After an error server and table
-/// stand for nothing.
+/// Takes out a name of a directory, and with its last name the object to which it leads. After an error server and
+/// table stand for nothing.
 pub fn drop_name(
     server: &mut Srv,
     table: &mut ConfTable,

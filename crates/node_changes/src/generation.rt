@@ -24,8 +24,8 @@ fn change_generation(table: &mut ConfTable, index: u32, generation: u32)
     table.lowest = table.lowest.min(index);
 }
 
-/// Gives an index another generation, of an object or of none. It asks the server nothing, and takes no memory. The array
-/// stays valid where no name leads to the index.
+/// Gives an index another generation, of an object or of none. It asks the server nothing, and takes no memory. The
+/// array stays valid where no name leads to the index.
 pub fn set_generation(table: &mut ConfTable, index: u32, generation: u32)
     requires { index < length table.old.rows.items }
     ensures stands { (s : Option Tree) (A : List Entry) → Stands s table.old A →

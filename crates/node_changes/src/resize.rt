@@ -28,7 +28,8 @@ pub fn resize(server: &mut Srv, file: &Handle, size: u32) -> Result<(), WrapErr>
     }
 }
 
-/// Cuts a file or fills it with zeros from one size to another, and writes it at a moment. After an error server and table stand for nothing.
+/// Cuts a file or fills it with zeros from one size to another, and writes it at a moment. After an error server and
+/// table stand for nothing.
 pub fn resize_file(
     server: &mut Srv,
     table: &mut ConfTable,

@@ -56,8 +56,8 @@ pub fn change_rows(table: &mut ConfTable, dir: u32, index: u32, time: Time, goes
     shift_used(table, goes, comes);
 }
 
-/// Sets the times of a directory that is written, and makes the row of an object null, where `goes` bytes go. It takes no
-/// memory.
+/// Sets the times of a directory that is written, and makes the row of an object null, where `goes` bytes go. It takes
+/// no memory.
 pub fn clear_rows(table: &mut ConfTable, dir: u32, index: u32, time: Time, goes: u32)
     requires dir { dir < length table.old.rows.items }
     requires index { index < length table.old.rows.items }

@@ -16,16 +16,21 @@ pub fn service_is_lawful()
     ensures { (limits : Limits) → IsSized limits → IsLawful (service limits) }
 {}
 
-/// A loose run of the service is Step's, and as promised, up to the last moment at which Fair and Apart hold for it and all earlier moments.
-/// Where no record harms it is right at every moment.
+/// A loose run of the service is Step's, and as promised, up to the last moment at which Fair and Apart hold for it and
+/// all earlier moments. Where no record harms it is right at every moment.
 pub fn service_runs()
     ensures exact { (limits : Limits) → IsSized limits →
-        (servers : ℕ) (downs : List FaultPoint) (events : List Event) → All (FitsEvent (service limits)) events → (ms : List Moment) →
-        LooseRun (service limits) servers downs events ms → SameUptoApart (service limits) nothing ms (run (service limits) servers downs events) }
+        (servers : ℕ) (downs : List FaultPoint) (events : List Event) →
+        All (FitsEvent (service limits)) events → (ms : List Moment) →
+        LooseRun (service limits) servers downs events ms →
+        SameUptoApart (service limits) nothing ms (run (service limits) servers downs events) }
     ensures promised { (limits : Limits) → IsSized limits →
-        (servers : ℕ) (downs : List FaultPoint) (events : List Event) → All (FitsEvent (service limits)) events → (ms : List Moment) →
-        LooseRun (service limits) servers downs events ms → UptoApart (service limits) nothing (IsAsPromised (service limits)) ms }
+        (servers : ℕ) (downs : List FaultPoint) (events : List Event) →
+        All (FitsEvent (service limits)) events → (ms : List Moment) →
+        LooseRun (service limits) servers downs events ms →
+        UptoApart (service limits) nothing (IsAsPromised (service limits)) ms }
     ensures calm { (limits : Limits) →
         (servers : ℕ) (downs : List FaultPoint) (events : List Event) → All IsHarmless events → (ms : List Moment) →
-        LooseRun (service limits) servers downs events ms → Always (λ m. IsCalm (service limits) m.state × HasEnough (service limits) m) ms }
+        LooseRun (service limits) servers downs events ms →
+        Always (λ m. IsCalm (service limits) m.state × HasEnough (service limits) m) ms }
 {}

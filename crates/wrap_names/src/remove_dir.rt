@@ -33,7 +33,8 @@ fn dir_refusal(attr: &NodeAttr) -> Option<Stat>
     }
 }
 
-/// The directory of an RMDIR, or the status of the first refusal: STALE, NOTDIR, ACCES, PERM, NOENT, NOTDIR or NOTEMPTY.
+/// The directory of an RMDIR, or the status of the first refusal: STALE, NOTDIR, ACCES, PERM, NOENT, NOTDIR or
+/// NOTEMPTY.
 fn find_dir(
     server: &mut Srv,
     table: &ConfTable,

@@ -1,6 +1,6 @@
-//! Names that are given, taken and moved, with their replies word for word: GETATTR 1, LOOKUP 4, READ 6, WRITE 8, CREATE 9,
-//! REMOVE 10, RENAME 11, LINK 12, MKDIR 14, READDIR 16 (RFC 1094, 2.2), and MOUNT (RFC 1094, A.5). The statuses are those of
-//! 2.3.1.
+//! Names that are given, taken and moved, with their replies word for word: GETATTR 1, LOOKUP 4, READ 6, WRITE 8,
+//! CREATE 9, REMOVE 10, RENAME 11, LINK 12, MKDIR 14, READDIR 16 (RFC 1094, 2.2), and MOUNT (RFC 1094, A.5). The
+//! statuses are those of 2.3.1.
 
 use super::session::{KEEP, OK, ROOT, Session, directory, file, handle};
 use std::test::Fail;

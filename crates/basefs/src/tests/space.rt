@@ -1,5 +1,5 @@
-//! What there is no room for, with the replies word for word: SETATTR 2, WRITE 8, CREATE 9, STATFS 17 (RFC 1094, 2.2). The
-//! statuses are those of 2.3.1.
+//! What there is no room for, with the replies word for word: SETATTR 2, WRITE 8, CREATE 9, STATFS 17 (RFC 1094,
+//! 2.2). The statuses are those of 2.3.1.
 
 use super::session::{KEEP, OK, ROOT, Session, file, handle};
 use std::test::Fail;

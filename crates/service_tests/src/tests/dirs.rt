@@ -1,4 +1,5 @@
-//! Directories: GETATTR 1, SETATTR 2, LOOKUP 4, MKDIR 14, READDIR 16 and STATFS 17 (RFC 1094, 2.2). The statuses are those of 2.3.1.
+//! Directories: GETATTR 1, SETATTR 2, LOOKUP 4, MKDIR 14, READDIR 16 and STATFS 17 (RFC 1094, 2.2). The statuses are
+//! those of 2.3.1.
 
 ghost use Rattle.std.specs.Prelude.{OnOk};
 ghost use Rattle.service_tests.specs.Ready.{IsReady};

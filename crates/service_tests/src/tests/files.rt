@@ -1,4 +1,5 @@
-//! Files and links: SETATTR 2, READLINK 5, READ 6, WRITE 8, CREATE 9, SYMLINK 13 (RFC 1094, 2.2). The statuses are those of 2.3.1.
+//! Files and links: SETATTR 2, READLINK 5, READ 6, WRITE 8, CREATE 9, SYMLINK 13 (RFC 1094, 2.2). The statuses are
+//! those of 2.3.1.
 
 ghost use Rattle.std.specs.Prelude.{OnOk};
 ghost use Rattle.service_tests.specs.Ready.{IsReady};
