@@ -9,8 +9,6 @@ use Rattle.log_stream.specs.declared.ReadErr.{ReadErr}
 use Rattle.log_stream.specs.declared.ReadErr.TheVariants as read
 use Rattle.log_stream.specs.Reading.{Refuses, Reads}
 use Rattle.log_stream.proofs.Taken.{Consumes-none, Consumes-then}
-use Rattle.outside.specs.declared.SinkErr.{SinkErr}
-use Rattle.outside.specs.declared.SinkErr.TheVariants as sink
 use Rattle.cluster.specs.declared.Request.{Request}
 use Rattle.cluster.specs.Run.{asked_by}
 use Rattle.basefs.specs.declared.status.Status.{Status}
@@ -18,7 +16,7 @@ use Rattle.basefs.specs.declared.status.Status.TheVariants as status
 use Rattle.basefs.specs.declared.verdict.Verdict.TheVariants as verdict
 use Rattle.basefs.specs.Log.{Log, bad, not_built, too_few, too_small, stops, behind_last, judge, records_from}
 use Rattle.basefs.specs.Run.{IsPrefix, HoldsOf, Says, Ends}
-use Rattle.basefs.specs.Going.{behind, Goes, read_status, write_status, FinishSays, Finishes}
+use Rattle.basefs.specs.Going.{behind, Goes, read_status, FinishSays, Finishes}
 use Rattle.basefs.proofs.Records.{records_zero, records_none, records_wrong, records_wait, spelled_goes, spelled_ends}
 
 behind_behind : (a b : List Event) (log : Log) → behind a (behind b log) ≡ behind (a ++ b) log
@@ -114,11 +112,6 @@ over_memory {left = left} f servers log r = record { taken = r.taken; consumed =
 pub one_goes : {old left : Option (List ℕ)} {e : Event} (n f servers k : ℕ) (q : List Request) (place : ℕ) → Reads (record_at f servers) (λ (x : Event). x) old left (Ok e) → judge k q e ≡ verdict.Goes
     → Goes old left (records_from (suc n) f servers k q place) (records_from n f servers k (q ++ asked_by e) (place + record_len e)) (e ∷ [])
 one_goes {e = e} n f servers k q place r j = record { taken = r.taken; consumed = r.consumed; goes = λ more. spelled_goes n f servers k q place r.taken e r.outcome j more }
-
--- a first part of the records was stepped, and a write failed
-pub over_write : (w : SinkErr) (log : List ℕ → Log) (left : Option (List ℕ)) → Ends left left log (write_status w) []
-over_write sink.Failed log left = record { taken = []; consumed = Consumes-none left; says = HoldsOf-always log [] left (λ l. IsPrefix [] l.events) (λ more. prefix_none (log more).events) }
-over_write sink.NoMemory log left = record { taken = []; consumed = Consumes-none left; says = HoldsOf-always log [] left (λ l. IsPrefix [] l.events) (λ more. prefix_none (log more).events) }
 
 -- the last record was read and stepped
 pub last_goes : {old left : Option (List ℕ)} {e : Event} (n f servers k : ℕ) (q : List Request) (place : ℕ) → Reads (record_at f servers) (λ (x : Event). x) old left (Ok e) → judge k q e ≡ verdict.Ends
