@@ -20,5 +20,5 @@ pub answered : (M : Type 0) (told_of : M → List ℕ) (noticed : M → List Ent
     Answers told_of noticed limits A (answer A limits r.time r.bytes) w tree' table' old new) →
     IfOk result (Answered limits r tree tree' table table')
 answered M told_of noticed limits r tree tree' table table' old new (Ok w) h =
-    record { step = λ A sv. let a = h A sv in (record { valid = a.valid; stands = a.stands }, a.word_is) }
+    record { step = λ A sv. let a = h A sv in (record { valid = a.valid; stands = a.stands; tallied = a.tallied }, a.word_is) }
 answered M told_of noticed limits r tree tree' table table' old new (Err e) h = tt

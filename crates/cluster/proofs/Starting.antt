@@ -9,6 +9,7 @@ use Rattle.server_trait.specs.Tree.{Server}
 use Rattle.server_trait.specs.declared.ConfTable.{ConfTable}
 use Rattle.server_trait.specs.declared.FaultPoint.{FaultPoint}
 use Rattle.conf_map.specs.Stands.{Stands}
+use Rattle.conf_map.specs.Tallied.{Tallied}
 use Rattle.log_format.specs.declared.Line.{Line}
 use Rattle.log_format.specs.declared.Line.TheVariants as lines
 use Rattle.cluster.specs.declared.request.Request.{Request}
@@ -46,10 +47,11 @@ module _ (limits : Limits) (one : limits.f ≡ 0) where
 
   -- the server was made fresh
   pub starts_live : 1 ≤ limits.n → (old new : Server) (table' : ConfTable) →
-      Stands new.tree table' (empty_array limits.n) → new.limits ≡ old.limits → new.faults ≡ old.faults →
+      Stands new.tree table' (empty_array limits.n) → Tallied table' (empty_array limits.n) →
+      new.limits ≡ old.limits → new.faults ≡ old.faults →
       Starts limits (record { limits = limits; requests = []; place = Some 0; events = 0 }) old new table' [] []
   unfolding service
-  starts_live some old new table' stands same quiet = record {
+  starts_live some old new table' stands tallied same quiet = record {
     numbered = All-nil (λ (d : FaultPoint). (d.event ≡ 0) × (d.replica ≡ 0));
     lines_are = refl;
     limits_are = refl;
@@ -58,7 +60,7 @@ module _ (limits : Limits) (one : limits.f ≡ 0) where
     state = subst (IsState limits [] (Some 0) new.tree table') (sym start_live) (record {
       condition = Live (record { array = empty_array limits.n; place = 0 });
       is_alone = refl;
-      seat = (refl, record { valid = empty_valid limits some; stands = stands }, λ p lt. refl);
+      seat = (refl, record { valid = empty_valid limits some; stands = stands; tallied = tallied }, λ p lt. refl);
     });
     lines_said = ap (λ (m : Moment). m.lines) start_live;
     struck = struck_none old new same quiet;

@@ -6,7 +6,7 @@ use Rattle.cluster.proofs.cluster.Cluster.start.Goals as goal
 pub returns-in-Ok-clause-starts : goal.returns-in-Ok-clause-starts
 returns-in-Ok-clause-starts g c =
     starts_as c.args.limits.now c.requires.one _ _ _ c.fresh.new.table c.new.result.items _ _ _ _ c.new.ensures.items c.requires.none c.new-in-Ok.ensures.items
-    (starts_live c.args.limits.now c.requires.one c.requires.within.0 _ _ c.fresh.new.table c.in-Ok.ensures.stands c.in-Ok.ensures.watched.limits c.in-Ok.ensures.watched.faults)
+    (starts_live c.args.limits.now c.requires.one c.requires.within.0 _ _ c.fresh.new.table c.in-Ok.ensures.stands c.in-Ok.ensures.tallied c.in-Ok.ensures.watched.limits c.in-Ok.ensures.watched.faults)
 
 pub returns-in_ok-push_point-in-Err-Down-clause-starts : goal.returns-in_ok-push_point-in-Err-Down-clause-starts
 returns-in_ok-push_point-in-Err-Down-clause-starts g c =
