@@ -9,5 +9,5 @@ returns-in-Ok g c =
       within = c.requires.within;
       room = subst (HasRoom c.args.limits.now) (sym c.in-Ok.ensures.watched.limits) c.requires.room;
       array = _;
-      stands = record { valid = a.valid; stands = a.stands };
+      stands = record { valid = a.valid; stands = a.stands; tallied = a.tallied };
     }
