@@ -1,6 +1,6 @@
 //! Logs that stop, with the byte at which they do.
 
-use super::{LINES, REPLY, WHOLE, header, log_of, null_log, null_request, run};
+use super::{LINES, REPLY, WHOLE, header, log_of, null_log, null_request};
 use crate::status::Status;
 use std::test::Fail;
 
@@ -9,7 +9,7 @@ fn ends(rt: &HostRuntime, keep: usize, more: &[u8]) -> Result<(Status, usize), F
     let mut log = null_log(rt.alloc())?;
     log.truncate(keep);
     log.extend_from_slice(more)?;
-    let (status, text) = run(rt.alloc(), log, WHOLE)?;
+    let (status, text) = super::run(rt.alloc(), log, WHOLE)?;
     Ok((status, text.len()))
 }
 
@@ -106,7 +106,7 @@ fn times_do_not_fall(rt: HostRuntime) -> Result<(), Fail> {
         rt.alloc(),
         &[&header(4), &null_request(1), &null_request(0)],
     )?;
-    let (status, text) = run(rt.alloc(), log, WHOLE)?;
+    let (status, text) = super::run(rt.alloc(), log, WHOLE)?;
     assert_eq!(rt; status, Status::BadLog { at: 84 });
     assert_eq!(rt; text.len(), 0);
     Ok(())
