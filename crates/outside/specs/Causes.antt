@@ -1,6 +1,7 @@
 -- When an object of the outside may answer a fault.
-use Rattle.std.specs.Prelude.{◌≡◌, ℕ, ◌<◌, ◌≤◌, Result, OnErr, IsErrOf}
+use Rattle.std.specs.Prelude.{◌≡◌, ℕ, ◌<◌, ◌≤◌, Result, OnOk, OnErr, IsErrOf}
 use Rattle.outside.specs.declared.link.LinkErr.{LinkErr}
+use Rattle.outside.specs.declared.medium.MediumErr.{MediumErr}
 use Rattle.outside.specs.declared.sink.SinkErr.{SinkErr}
 pub use Rattle.nfs2_types.specs.Counts.{Rose}
 
@@ -21,3 +22,16 @@ pub record LinkHasCause {T : Type 0} (before now : ℕ) (result : Result T LinkE
   pub later : before ≤ now
   pub failed : IsErrOf result LinkErr.Failed → Rose before now
   pub no_memory : IsErrOf result LinkErr.NoMemory → now ≡ before
+
+-- the same for a read of a medium, of which an Ok leaves the count
+pub record ReadHasCause {T E : Type 0} (before now : ℕ) (result : Result T E) : Type 0 where
+  pub later : before ≤ now
+  pub failed : OnErr result (Rose before now)
+  pub ok : OnOk result (now ≡ before)
+
+-- the same for a write of a medium
+pub record WriteHasCause {T : Type 0} (before now : ℕ) (result : Result T MediumErr) : Type 0 where
+  pub later : before ≤ now
+  pub failed : IsErrOf result MediumErr.Failed → Rose before now
+  pub no_memory : IsErrOf result MediumErr.NoMemory → now ≡ before
+  pub ok : OnOk result (now ≡ before)

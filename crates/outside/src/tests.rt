@@ -96,3 +96,24 @@ fn a_clock_repeats_its_last_time(rt: HostRuntime) -> Result<(), Fail> {
     }
     Ok(())
 }
+
+#[test]
+fn a_medium_keeps_what_was_written_last(rt: HostRuntime) -> Result<(), Fail> {
+    let mut medium = MemMedium::new(rt.alloc(), 9, [3, 6].to_vec(rt.alloc())?);
+    let mut block = [7; 512];
+    assert_eq!(rt; medium.blocks(), 9);
+    assert_eq!(rt; medium.read(8, &mut block), Ok(()));
+    assert!(rt; block == [0; 512]);
+    assert_eq!(rt; medium.write(8, &[1; 512]), Ok(()));
+    assert_eq!(rt; medium.write(0, &[2; 512]), Err(MediumErr::Failed));
+    assert_eq!(rt; medium.write(0, &[3; 512]), Ok(()));
+    assert_eq!(rt; medium.read(8, &mut block), Ok(()));
+    assert!(rt; block == [1; 512]);
+    assert_eq!(rt; medium.write(8, &[0; 512]), Err(MediumErr::Failed));
+    assert_eq!(rt; medium.write(8, &[0; 512]), Ok(()));
+    assert_eq!(rt; medium.read(8, &mut block), Ok(()));
+    assert!(rt; block == [0; 512]);
+    assert_eq!(rt; medium.read(0, &mut block), Ok(()));
+    assert!(rt; block == [3; 512]);
+    Ok(())
+}
