@@ -1,0 +1,9 @@
+pub mod Blocks
+pub mod Copies
+pub mod Ends
+pub mod Finds
+pub mod Halves
+pub mod LiveLaws
+pub mod MapViews
+pub mod Puts
+pub mod Replays

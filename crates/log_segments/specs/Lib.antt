@@ -1,0 +1,4 @@
+pub mod Failures
+pub mod Newest
+pub mod Record
+pub mod Segments
