@@ -1,0 +1,3 @@
+pub mod StepLaws
+pub mod TreeLaws
+pub mod Views
