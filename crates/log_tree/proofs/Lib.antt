@@ -1,3 +1,4 @@
+pub mod RootLaws
 pub mod StepLaws
 pub mod TreeLaws
 pub mod Views

@@ -140,7 +140,8 @@ names_inverse dir eight =
             | true ↦ (λ e w.
                 let rest : drop 9 a ≡ q = cc in
                 let front : take 9 a ≡ head = (bytes_eq-Decides (take 9 a) head).0 e in
-                ap Some (ap (λ xs. xs ++ q) (sym front) ∙ (ap (λ xs. take 9 a ++ xs) (sym rest) ∙ take-append-drop 9 a)))
+                ap Some (ap (λ xs. xs ++ q) (sym front) ∙ (ap (λ xs. take 9 a ++ xs) (sym rest)
+                ∙ take-append-drop 9 a)))
             | false ↦ (λ e w. cc)
           ] refl h;
       again = λ a q h.

@@ -1,18 +1,17 @@
 -- The tree that a medium holds. It is read off the live records of the log on it: of each key the newest record of the
 -- current half.
-use Rattle.std.specs.Prelude.{◌==◌, ◌+◌, ◌-◌, ◌*◌, ◌++◌, ◌∷◌, ◌&&◌, ◌||◌, max, nat_le, nat_lt, ℕ, suc, zero, List, [], Bool, true, false, Option, Some, None, is_some, if◌then◌else◌, bytes_eq, length, get_or, take, drop, replicate, flat_map}
+use Rattle.std.specs.Prelude.{◌==◌, ◌+◌, ◌-◌, ◌++◌, ◌∷◌, ◌&&◌, ◌||◌, max, nat_le, nat_lt, ℕ, suc, zero, List, [], Bool, true, false, not, Option, Some, None, is_some, if◌then◌else◌, bytes_eq, length, get_or, take, drop, replicate, flat_map}
 use Rattle.std.specs.Int.{from_be_bytes, w32, w64}
-use Rattle.std.specs.List.{list_all, count_by, sum_by}
-use Rattle.std.specs.FinMap.{from_entries}
+use Rattle.std.specs.List.{list_all}
+use Rattle.std.specs.FinMap.{entries, from_entries, len}
 use Rattle.nfs2_types.specs.declared.fattr.Kind.{Kind}
 use Rattle.nfs2_types.specs.declared.fattr.Kind.TheVariants.{File, Dir, Link}
-use Rattle.server_trait.specs.Tree.{Content, BytesOf, TextOf, NamesOf, Names, Node, Tree}
+use Rattle.server_trait.specs.Tree.{Content, BytesOf, TextOf, NamesOf, Names, Node, Tree, names_in, names_at, node_at, links, used}
 use Rattle.server_trait.specs.declared.server.ServerLimits.{ServerLimits}
-use Rattle.server_trait.specs.declared.server.TheConstants.{NAME_BYTES}
 use Rattle.log_segments.specs.Newest.{find}
 use Rattle.log_segments.specs.Record.{key_of}
 use Rattle.log_segments.specs.Segments.{live_records}
-use Rattle.log_records.specs.Layout.{node_key, chunk_key, value_of, node_in, child_in, chunk_in}
+use Rattle.log_records.specs.Layout.{chunk_key, value_of, node_in, child_in, chunk_in}
 
 -- records, each a block
 abbrev pub Records : Type 0
@@ -103,70 +102,58 @@ is_name r = get_or (key_of r) 0 0 == 2
 abbrev pub is_chunk : List ℕ → Bool
 is_chunk r = get_or (key_of r) 0 0 == 3
 
--- the node's kind is directory
-abbrev pub is_dir_kind : Kind → Bool
-is_dir_kind File = false
-is_dir_kind Dir = true
-is_dir_kind Link = false
-
--- there is a directory of this id
+-- the node of this id is a directory, and it is none
 abbrev pub is_dir : Records → List ℕ → Bool
-is_dir live id = elim (find (node_key id) live) [ None ↦ false | Some r ↦ is_dir_kind (node_in (value_of r)).kind ]
+is_dir live id = is_some (names_at (tree_of live) (handle_of id))
 
--- how many names lead to a node
-abbrev pub names_to : Records → List ℕ → ℕ
-names_to live id = count_by (λ r. is_name r && bytes_eq (child_in (value_of r)) id) live
+abbrev pub is_leaf : Records → List ℕ → Bool
+is_leaf live id = is_some (node_at (tree_of live) (handle_of id)) && not (is_dir live id)
 
 -- the place of a chunk among those of its node
 abbrev pub place_of : List ℕ → ℕ
 place_of r = from_be_bytes w32 (drop 9 (key_of r))
 
--- no name leads to the root, and one to each other directory
+-- a chunk has from 1 to 480 bytes
+abbrev pub has_bytes : List ℕ → Bool
+has_bytes r = nat_lt 0 (length (chunk_in (value_of r))) && nat_le (length (chunk_in (value_of r))) 480
+
+-- a chunk is the first, or a full one stands before it
+abbrev pub is_behind_full : Records → List ℕ → Bool
+is_behind_full live r = (place_of r == 0) || elim (find (chunk_key (id_of r) (place_of r - 1)) live) [
+  | None ↦ false
+  | Some before ↦ length (chunk_in (value_of before)) == 480
+]
+
+-- a node's key has 9 bytes; a name is one of a directory and has at most 255 bytes; a chunk is one of a file or of a
+-- link, and stands in its place
+abbrev pub has_place : Records → List ℕ → Bool
+has_place live r =
+    if is_node r then length (key_of r) == 9
+    else (if is_name r then is_dir live (id_of r) && nat_le 9 (length (key_of r)) && nat_le (length (key_of r)) 264
+    else (is_chunk r && (length (key_of r) == 13) && is_leaf live (id_of r) && nat_lt (place_of r) 17477 && has_bytes r
+    && is_behind_full live r))
+
+-- so many names may lead to a directory
 abbrev pub most_names : List ℕ → ℕ
-most_names id = if bytes_eq id root_id then 0 else 1
+most_names h = if bytes_eq h (handle_of root_id) then 0 else 1
 
--- a node's key has 9 bytes, and a directory as many names as it may
-abbrev pub is_sound_node : Records → List ℕ → Bool
-is_sound_node live r =
-    (length (key_of r) == 9)
-    && (if is_dir live (id_of r) then names_to live (id_of r) == most_names (id_of r) else true)
+-- a name leads to a node, and to a directory no other name; none leads to the root
+abbrev pub is_tied : Tree → List ℕ → Node → Bool
+is_tied t h n = elim (names_in n.content) [
+  | None ↦ true
+  | Some names ↦ (links t h == most_names h) && list_all (λ e. is_some (node_at t e.1)) (entries names)
+]
 
--- a name is one of a directory, has at most 255 bytes, and leads to a node
-abbrev pub is_sound_name : Records → List ℕ → Bool
-is_sound_name live r =
-    is_dir live (id_of r) && nat_le 9 (length (key_of r)) && nat_le (length (key_of r)) 264
-    && is_some (find (node_key (child_in (value_of r))) live)
-
--- a chunk is one of a file or of a link, and is not empty; it is the first, or a full one stands before it
-abbrev pub is_sound_chunk : Records → List ℕ → Bool
-is_sound_chunk live r =
-    (length (key_of r) == 13)
-    && is_some (find (node_key (id_of r)) live) && (if is_dir live (id_of r) then false else true)
-    && nat_lt (place_of r) 17477 && nat_lt 0 (length (chunk_in (value_of r))) && nat_le (length (chunk_in (value_of r))) 480
-    && ((place_of r == 0) || elim (find (chunk_key (id_of r) (place_of r - 1)) live) [
-      | None ↦ false
-      | Some before ↦ length (chunk_in (value_of before)) == 480
-    ])
-
-abbrev pub is_sound : Records → List ℕ → Bool
-is_sound live r =
-    if is_node r then is_sound_node live r
-    else (if is_name r then is_sound_name live r else (is_chunk r && is_sound_chunk live r))
-
--- the bytes of all chunks
-abbrev pub byte_count : Records → ℕ
-byte_count live = sum_by (λ r. if is_chunk r then length (chunk_in (value_of r)) else 0) live
-
--- the nodes but for the root, the bytes, and `NAME_BYTES` for each name are within the limits
-abbrev pub is_within : ServerLimits → Records → Bool
-is_within limits live =
-    nat_le (count_by is_node live) (max limits.nodes 1)
-    && nat_le (byte_count live + NAME_BYTES * count_by is_name live) limits.bytes
+-- the nodes but for the root, and the bytes in use, are within the limits
+abbrev pub is_within : ServerLimits → Tree → Bool
+is_within limits t = nat_le (len t.nodes) (max limits.nodes 1) && nat_le (used t) limits.bytes
 
 -- the tree that live records make, or none
 abbrev pub tree_in : ServerLimits → Records → Option Tree
 tree_in limits live =
-    if list_all (is_sound live) live && is_dir live root_id && is_within limits live then Some (tree_of live) else None
+    let t = tree_of live in
+    if list_all (has_place live) live && is_dir live root_id && list_all (λ e. is_tied t e.0 e.1) (entries t.nodes)
+    && is_within limits t then Some t else None
 
 -- the tree that a medium of so many blocks holds, or none
 abbrev pub held : (ℕ → List ℕ) → ℕ → ServerLimits → Option Tree

@@ -1,12 +1,14 @@
 -- What one record more does to the tree of live records.
-use Rattle.std.specs.Prelude.{◌≡◌, ◌≢◌, ◌<◌, ◌-◌, ◌+◌, ℕ, List, ◌∷◌, ◌++◌, true, false, length, Some, None, IsSome}
+use Rattle.std.specs.Prelude.{◌≡◌, ◌≢◌, ◌<◌, ◌-◌, ◌+◌, ℕ, List, [], ◌∷◌, ◌++◌, true, false, length, Some, None, IsSome}
 use Rattle.std.specs.FinMap.{insert, remove}
-use Rattle.nfs2_types.specs.declared.fattr.Kind.TheVariants.{File}
+use Rattle.nfs2_types.specs.declared.fattr.Kind.TheVariants.{File, Dir}
 use Rattle.server_trait.specs.Tree.{with_node, without_node, edited, named, unnamed, with_attr, with_bytes}
+use Rattle.server_trait.specs.Calls.{IsFresh}
+use Rattle.server_trait.specs.declared.server.ServerLimits.{ServerLimits}
 use Rattle.log_segments.specs.Newest.{after, find}
 use Rattle.log_segments.specs.Record.{is_gone, key_of}
 use Rattle.log_records.specs.Layout.{node_key, name_key, chunk_key, value_of, node_in, child_in, chunk_in}
-use Rattle.log_tree.specs.Held.{Records, handle_of, node_of, names_of, chunk_and, bytes_from, bytes_of, tree_of}
+use Rattle.log_tree.specs.Held.{Records, handle_of, root_id, node_of, names_of, chunk_and, bytes_from, bytes_of, tree_of, tree_in}
 
 -- a record is about a node itself
 pub record IsOfNode (r id : List ℕ) : Type 0 where
@@ -71,3 +73,8 @@ abbrev pub OfChunk : Type 0
 OfChunk = (live : Records) (r id : List ℕ) (place : ℕ) → length id ≡ 8 → place < 17477 →
     key_of r ≡ chunk_key id place →
     ((p : ℕ) → p < place → IsSome (find (chunk_key id p) live)) → ChunkLaws live r id place
+
+-- a root without names is held, whatever the limits
+abbrev pub RootIsHeld : Type 0
+RootIsHeld = (limits : ServerLimits) (r : List ℕ) → key_of r ≡ node_key root_id → is_gone r ≡ false →
+    node_in (value_of r) ≡ record { kind = Dir; mode = 0; uid = 0; gid = 0 } → IsFresh (tree_in limits (r ∷ []))

@@ -3,4 +3,4 @@
 
 mod laws;
 
-pub use laws::{has_room, of_chunk, of_inside, of_name, of_node};
+pub use laws::{has_room, of_chunk, of_inside, of_name, of_node, root_is_held};
