@@ -1,0 +1,17 @@
+use Rattle.std.proofs.Common.{ap, subst, sym, ◌∙◌}
+use Rattle.log_segments.specs.Newest.{after}
+use Rattle.log_store.specs.Store.{PutsChunk, live_in}
+use Rattle.log_store.proofs.StoreLaws.{chunk_stands, chunk_put}
+use Rattle.log_store.proofs.store.LogStore.put_chunk.Goals as goal
+
+pub put-requires-clause-stands : goal.put-requires-clause-stands
+put-requires-clause-stands g c =
+    rw c.chunk_record.ensures (chunk_stands c.args.id.now c.args.place c.args.bytes.now c.told-id c.requires.bytes)
+
+pub returns-clause-puts : goal.returns-clause-puts
+returns-clause-puts g c =
+    let live = live_in g.M.Medium.content g.M.Medium.size c.args.self.now in
+    subst (PutsChunk live c.args.id.now c.args.place c.args.bytes.now) (sym (c.in_ok-put.ensures.live
+    ∙ ap (after live) c.chunk_record.ensures))
+    (chunk_put live c.args.id.now c.args.place c.args.bytes.now c.told-id c.requires.few c.requires.bytes
+    c.requires.before)

@@ -1,0 +1,22 @@
+use Rattle.std.proofs.Common.{ap, subst, sym, ◌∙◌}
+use Rattle.log_segments.specs.Newest.{after}
+use Rattle.log_records.specs.declared.node.NodeRecord.{NodeRecord}
+use Rattle.log_store.specs.Store.{PutsNode, live_in}
+use Rattle.log_store.proofs.StoreLaws.{node_stands, node_put}
+use Rattle.log_store.proofs.store.LogStore.put_node.Goals as goal
+
+pub put-requires-clause-stands : goal.put-requires-clause-stands
+put-requires-clause-stands g c = rw c.node_record.ensures (node_stands c.args.id.now _ c.told-id)
+
+pub returns-clause-puts : goal.returns-clause-puts
+returns-clause-puts g c =
+    let a = c.args in
+    let live = live_in g.M.Medium.content g.M.Medium.size a.self.now in
+    let node : NodeRecord = record { kind = a.kind; mode = a.mode; uid = a.uid; gid = a.gid } in
+    subst (PutsNode live a.id.now node) (sym (c.in_ok-put.ensures.live ∙ ap (after live) c.node_record.ensures))
+    (node_put live a.id.now node c.told-id (record {
+      mode = c.ranges.mode.fits;
+      uid = c.ranges.uid.fits;
+      gid =
+          c.ranges.gid.fits;
+    }))

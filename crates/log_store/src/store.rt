@@ -1,0 +1,87 @@
+//! A store on a log.
+
+ghost use Rattle.std.specs.Prelude.{◌≡◌, ◌≤◌, false, [], length, OnOk, IfOk, IfSome};
+ghost use Rattle.outside.specs.Causes.{WriteHasCause};
+ghost use Rattle.log_segments.specs.Newest.{after, find};
+ghost use Rattle.log_segments.specs.Record.{is_end};
+ghost use Rattle.log_segments.specs.Segments.{half_size};
+ghost use Rattle.log_store.specs.Store.{IsStore, HasRoom, Reads, Writes, live_in, medium_of};
+
+use log_segments::{Key, Log};
+use outside::{Block, Medium, MediumErr};
+use std::alloc::Global;
+
+/// Nodes, names and chunks of bytes on a log. Where a call that writes answers an error, the store serves again after a
+/// `clear` or a `replay`.
+#[derive(Drop)]
+pub struct LogStore<M: Medium> {
+    pub(crate) alloc: Global,
+    pub(crate) log: Log<M>,
+}
+
+impl<M: Medium> LogStore<M> {
+    /// A store whose medium is not read yet. It takes no memory.
+    pub fn new(alloc: Global, medium: M) -> LogStore<M>
+        ensures { medium_of result ≡ medium }
+    {
+        LogStore {
+            alloc,
+            log: Log::new(alloc, medium),
+        }
+    }
+
+    /// The medium, given back.
+    pub fn into_medium(self) -> M
+        ensures { result ≡ medium_of self }
+    {
+        self.log.into_medium()
+    }
+
+    /// Makes the store empty, whatever the medium holds.
+    pub fn clear(&mut self) -> Result<(), MediumErr>
+        requires half { 1 ≤ half_size (M.size (medium_of self.old)) }
+        ensures store { OnOk result (IsStore M.content M.size self.new) }
+        ensures empty { OnOk result (live_in M.content M.size self.new ≡ []) }
+        ensures size { M.size (medium_of self.new) ≡ M.size (medium_of self.old) }
+        ensures cause { WriteHasCause (M.faults (medium_of self.old)) (M.faults (medium_of self.new)) result }
+    {
+        self.log.clear()?;
+        Ok(())
+    }
+
+    /// Reads the medium.
+    pub fn replay(&mut self) -> Result<(), MediumErr>
+        requires half { 1 ≤ half_size (M.size (medium_of self.old)) }
+        ensures store { OnOk result (IsStore M.content M.size self.new) }
+        ensures content { M.content (medium_of self.new) ≡ M.content (medium_of self.old) }
+        ensures size { M.size (medium_of self.new) ≡ M.size (medium_of self.old) }
+        ensures cause { WriteHasCause (M.faults (medium_of self.old)) (M.faults (medium_of self.new)) result }
+    {
+        self.log.replay()?;
+        Ok(())
+    }
+
+    /// Puts a record.
+    pub(crate) fn put(&mut self, block: &Block) -> Result<(), MediumErr>
+        requires store { IsStore M.content M.size self.old }
+        requires room { HasRoom M.content M.size self.old }
+        requires stands { is_end block.now ≡ false }
+        ensures live { let live = live_in M.content M.size in
+            OnOk result (live self.new ≡ after (live self.old) block.now) }
+        ensures writes { Writes M.content M.size M.faults self.old self.new result }
+    {
+        self.log.put(block)?;
+        Ok(())
+    }
+
+    /// The live record of a key.
+    pub(crate) fn find(&mut self, key: &Key) -> Result<Option<Block>, MediumErr>
+        requires store { IsStore M.content M.size self.old }
+        ensures found { IfOk result (λ found. found ≡ find key.now (live_in M.content M.size self.old)) }
+        ensures whole { IfOk result (λ found. IfSome found (λ block. length block ≡ 512)) }
+        ensures reads { Reads M.content M.size M.faults self.old self.new result }
+    {
+        let found = self.log.find(key)?;
+        Ok(found)
+    }
+}
