@@ -1,0 +1,5 @@
+mod BitLaws
+mod Counts
+mod MapLaws
+mod PathLaws
+mod TreeLaws
