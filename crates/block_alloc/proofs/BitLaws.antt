@@ -15,14 +15,18 @@ without_bit ws b = bit_and (get_or ws (b / 64) 0) (bit_not w64 (1 * 2 ^ (b % 64)
 
 pub is_set-with_same : (ws : List ℕ) (b : ℕ) → b / 64 < length ws → is_set (set ws (b / 64) (with_bit ws b)) b ≡ true
 unfolding is_set
-is_set-with_same ws b within = rw get_or-set_same (eq-eqb _ 1 (bit_at_set_same w64 (get_or ws (b / 64) 0) (b % 64) (omega arith)))
+is_set-with_same ws b within = rw get_or-set_same (eq-eqb _ 1 (bit_at_set_same w64 (get_or ws (b / 64) 0) (b % 64)
+    (omega arith)))
 
-pub is_set-without_same : (ws : List ℕ) (b : ℕ) → b / 64 < length ws → is_set (set ws (b / 64) (without_bit ws b)) b ≡ false
+pub is_set-without_same : (ws : List ℕ) (b : ℕ) → b / 64 < length ws → is_set (set ws (b / 64) (without_bit ws b))
+    b ≡ false
 unfolding is_set
-is_set-without_same ws b within = rw get_or-set_same (ap (λ (n : ℕ). n == 1) (bit_at_clear_same w64 (get_or ws (b / 64) 0) (b % 64) (omega arith)))
+is_set-without_same ws b within = rw get_or-set_same
+    (ap (λ (n : ℕ). n == 1) (bit_at_clear_same w64 (get_or ws (b / 64) 0) (b % 64) (omega arith)))
 
 -- a word is changed at one bit alone
-is_set-set_other : (ws : List ℕ) (b k v : ℕ) → b / 64 < length ws → k ≢ b → ((i : ℕ) → i < 64 → i ≢ b % 64 → bit_at v i ≡ bit_at (get_or ws (b / 64) 0) i) → is_set (set ws (b / 64) v) k ≡ is_set ws k
+is_set-set_other : (ws : List ℕ) (b k v : ℕ) → b / 64 < length ws → k ≢ b → ((i : ℕ) → i < 64 → i ≢ b % 64 →
+    bit_at v i ≡ bit_at (get_or ws (b / 64) 0) i) → is_set (set ws (b / 64) v) k ≡ is_set ws k
 unfolding is_set
 is_set-set_other ws b k v within other same = elim (cases_eq (k / 64) (b / 64)) [
   | inl e ↦ let ne : k % 64 ≢ b % 64 = omega arith in
@@ -30,16 +34,21 @@ is_set-set_other ws b k v within other same = elim (cases_eq (k / 64) (b / 64)) 
   | inr ne ↦ rw get_or-set_other refl
 ]
 
-pub is_set-with_other : (ws : List ℕ) (b k : ℕ) → b / 64 < length ws → k ≢ b → is_set (set ws (b / 64) (with_bit ws b)) k ≡ is_set ws k
+pub is_set-with_other : (ws : List ℕ) (b k : ℕ) → b / 64 < length ws → k ≢ b →
+    is_set (set ws (b / 64) (with_bit ws b)) k ≡ is_set ws k
 is_set-with_other ws b k within other =
-    is_set-set_other ws b k _ within other (λ i l ne. bit_at_set_other w64 (get_or ws (b / 64) 0) (b % 64) (omega arith) i ne)
+    is_set-set_other ws b k _ within other (λ i l ne. bit_at_set_other w64 (get_or ws (b / 64) 0) (b % 64)
+    (omega arith) i ne)
 
-pub is_set-without_other : (ws : List ℕ) (b k : ℕ) → b / 64 < length ws → k ≢ b → is_set (set ws (b / 64) (without_bit ws b)) k ≡ is_set ws k
+pub is_set-without_other : (ws : List ℕ) (b k : ℕ) → b / 64 < length ws → k ≢ b →
+    is_set (set ws (b / 64) (without_bit ws b)) k ≡ is_set ws k
 is_set-without_other ws b k within other =
-    is_set-set_other ws b k _ within other (λ i l ne. bit_at_clear_other w64 (get_or ws (b / 64) 0) (b % 64) (omega arith) i l ne)
+    is_set-set_other ws b k _ within other (λ i l ne. bit_at_clear_other w64 (get_or ws (b / 64) 0) (b % 64)
+    (omega arith) i l ne)
 
 -- a bit by its word and its place there
-is_set-at : (ws : List ℕ) (b word place : ℕ) → place < 64 → b ≡ 64 * word + place → is_set ws b ≡ (bit_at (get_or ws word 0) place == 1)
+is_set-at : (ws : List ℕ) (b word place : ℕ) → place < 64 → b ≡ 64 * word + place →
+    is_set ws b ≡ (bit_at (get_or ws word 0) place == 1)
 unfolding is_set
 is_set-at ws b word place l e =
     let q : b / 64 ≡ word = omega arith in
@@ -56,12 +65,14 @@ pub record LowestOf (ws : List ℕ) (word b : ℕ) : Type 0 where
   pub set : is_set ws b ≡ true
   pub lowest : (k : ℕ) → 64 * word ≤ k → k < b → is_set ws k ≡ false
 
-pub lowest_of : (ws : List ℕ) (word : ℕ) → has_bits ws word ≡ true → get_or ws word 0 < 2 ^ 64 → LowestOf ws word (64 * word + trailing_zeros w64 (get_or ws word 0))
+pub lowest_of : (ws : List ℕ) (word : ℕ) → has_bits ws word ≡ true → get_or ws word 0 < 2 ^ 64 → LowestOf ws word
+    (64 * word + trailing_zeros w64 (get_or ws word 0))
 lowest_of ws word some fits =
     let t = trailing_zeros w64 (get_or ws word 0) in
     let low = bit_at-trailing_zeros w64 (get_or ws word 0) (has_bits-pos ws word some) fits in
     record {
       high = omega (arith, low.0);
       set = is_set-at ws _ word t low.0 refl ∙ ap (λ (n : ℕ). n == 1) low.1;
-      lowest = λ k from below. is_set-at ws k word (k - 64 * word) (omega (arith, low.0)) (omega arith) ∙ ap (λ (n : ℕ). n == 1) (low.2 (k - 64 * word) (omega arith));
+      lowest = λ k from below. is_set-at ws k word (k - 64 * word) (omega (arith, low.0)) (omega arith)
+          ∙ ap (λ (n : ℕ). n == 1) (low.2 (k - 64 * word) (omega arith));
     }

@@ -7,7 +7,8 @@ free_count-taken [] b h = absurd (let bad : false ≡ true = h in cc)
 free_count-taken (x ∷ xs) zero h = let e : x ≡ true = h in rw e (omega arith)
 free_count-taken (x ∷ xs) (suc b) h = let rest = free_count-taken xs b h in omega (arith, rest)
 
-pub free_count-given : (m : List Bool) (b : ℕ) → b < length m → get_or m b false ≡ false → free_count (set m b true) ≡ free_count m + 1
+pub free_count-given : (m : List Bool) (b : ℕ) → b < length m → get_or m b false ≡ false → free_count (set m b true) ≡
+    free_count m + 1
 free_count-given [] b l h = absurd (omega arith)
 free_count-given (x ∷ xs) zero l h = let e : x ≡ false = h in rw e (omega arith)
 free_count-given (x ∷ xs) (suc b) l h = let rest = free_count-given xs b (omega arith) h in omega (arith, rest)
@@ -31,6 +32,7 @@ pub free_count-pos : (m : List Bool) (b : ℕ) → get_or m b false ≡ true →
 free_count-pos m b h = omega (arith, free_count-taken m b h)
 
 -- a block is made free, or taken
-pub free_count-marked : (m : List Bool) (b : ℕ) (v : Bool) → b < length m → get_or m b false ≡ not v → free_count (set m b v) + one_if (not v) ≡ free_count m + one_if v
+pub free_count-marked : (m : List Bool) (b : ℕ) (v : Bool) → b < length m → get_or m b false ≡ not v →
+    free_count (set m b v) + one_if (not v) ≡ free_count m + one_if v
 free_count-marked m b true l h = omega (arith, free_count-given m b l h)
 free_count-marked m b false l h = omega (arith, free_count-taken m b h)

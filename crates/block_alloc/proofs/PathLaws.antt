@@ -22,16 +22,21 @@ has_bits-other : (old words : List ℕ) (i : ℕ) → get_or words i 0 ≡ get_o
 unfolding has_bits
 has_bits-other old words i e = rw e refl
 
-pub written_first : (old words : List ℕ) (leaf bit : ℕ) (value : Bool) → bit / 64 < length old → bit < 64 * (leaf + 1) → ((b : ℕ) → b < leaf → is_set old b ≡ has_bits old (b + 1)) → leaf ≤ bit → WritesBit old words bit value → IsWritten old words leaf bit value bit
+pub written_first : (old words : List ℕ) (leaf bit : ℕ) (value : Bool) → bit / 64 < length old → bit < 64 * (leaf + 1)
+    → ((b : ℕ) → b < leaf → is_set old b ≡ has_bits old (b + 1)) → leaf ≤ bit → WritesBit old words bit value →
+    IsWritten old words leaf bit value bit
 written_first old words leaf bit value within below kept low w = record {
   within = rw w.size within;
   below = below;
-  links = λ b l ne. let other : b ≢ bit = omega arith in w.others b other ∙ kept b l ∙ sym (has_bits-other old words (b + 1) (w.apart (b + 1) ne));
+  links = λ b l ne. let other : b ≢ bit = omega arith in w.others b other ∙ kept b l
+      ∙ sym (has_bits-other old words (b + 1) (w.apart (b + 1) ne));
   here = w.here;
   others = λ b l ne. w.others b ne;
 }
 
-pub written_next : (first old words : List ℕ) (leaf bit : ℕ) (value : Bool) (at : ℕ) → 64 ≤ at → leaf ≤ bit → IsWritten first old leaf bit value at → WritesBit old words (at / 64 - 1) (has_bits old (at / 64)) → IsWritten first words leaf bit value (at / 64 - 1)
+pub written_next : (first old words : List ℕ) (leaf bit : ℕ) (value : Bool) (at : ℕ) → 64 ≤ at → leaf ≤ bit →
+    IsWritten first old leaf bit value at → WritesBit old words (at / 64 - 1) (has_bits old (at / 64)) →
+    IsWritten first words leaf bit value (at / 64 - 1)
 written_next first old words leaf bit value at more low was w =
     let up : at / 64 - 1 < leaf = omega (arith, was.below) in
     record {
@@ -41,7 +46,8 @@ written_next first old words leaf bit value at more low was w =
         | inl e ↦
             let this : b + 1 ≡ at / 64 = omega arith in
             let lower : at / 64 ≢ (at / 64 - 1) / 64 = omega arith in
-            ap (is_set words) e ∙ w.here ∙ sym (has_bits-other old words (at / 64) (w.apart (at / 64) lower)) ∙ ap (has_bits words) (sym this)
+            ap (is_set words) e ∙ w.here ∙ sym (has_bits-other old words (at / 64) (w.apart (at / 64) lower))
+            ∙ ap (has_bits words) (sym this)
         | inr other ↦
             let apart : b + 1 ≢ at / 64 = omega arith in
             w.others b other ∙ was.links b l apart ∙ sym (has_bits-other old words (b + 1) (w.apart (b + 1) ne))

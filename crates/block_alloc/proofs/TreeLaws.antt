@@ -43,7 +43,9 @@ lowest_first ws bit found = record {
   lowest = λ b l h. found.lowest b (omega arith) h;
 }
 
-pub lowest_next : (ws : List ℕ) (depth above bit : ℕ) → ((b : ℕ) → b < first_bit (suc depth) → is_set ws b ≡ has_bits ws (b + 1)) → IsLowestAt ws depth above → 64 * (above + 1) ≤ bit → LowestOf ws (above + 1) bit → IsLowestAt ws (suc depth) bit
+pub lowest_next : (ws : List ℕ) (depth above bit : ℕ) → ((b : ℕ) → b < first_bit (suc depth) → is_set ws b ≡ has_bits
+    ws (b + 1)) → IsLowestAt ws depth above → 64 * (above + 1) ≤ bit → LowestOf ws (above + 1) bit → IsLowestAt ws
+    (suc depth) bit
 lowest_next ws depth above bit kept at low found = record {
   low = omega (arith, first_bit-suc depth, at.low);
   high = omega (arith, first_bit-suc (suc depth), at.high, found.high);
@@ -53,13 +55,15 @@ lowest_next ws depth above bit kept at low found = record {
         let parent : b / 64 - 1 + 1 ≡ b / 64 = omega (arith, first_bit-suc depth) in
         let from : first_bit depth ≤ b / 64 - 1 = omega (arith, first_bit-suc depth) in
         let left : b / 64 - 1 < above = omega (arith, first_bit-suc depth) in
-        is_set-no_bits ws b (ap (has_bits ws) (sym parent) ∙ sym (kept (b / 64 - 1) (omega (arith, at.high))) ∙ at.lowest (b / 64 - 1) from left)
+        is_set-no_bits ws b (ap (has_bits ws) (sym parent) ∙ sym (kept (b / 64 - 1) (omega (arith, at.high)))
+        ∙ at.lowest (b / 64 - 1) from left)
     | inr here ↦ found.lowest b here h
   ];
 }
 
 -- where the first word has no bits, no bit is set
-pub none_set : (ws : List ℕ) (depth : ℕ) → has_bits ws 0 ≡ false → ((b : ℕ) → b < first_bit depth → is_set ws b ≡ has_bits ws (b + 1)) → (b : ℕ) → first_bit depth ≤ b → b < first_bit (suc depth) → is_set ws b ≡ false
+pub none_set : (ws : List ℕ) (depth : ℕ) → has_bits ws 0 ≡ false → ((b : ℕ) → b < first_bit depth →
+    is_set ws b ≡ has_bits ws (b + 1)) → (b : ℕ) → first_bit depth ≤ b → b < first_bit (suc depth) → is_set ws b ≡ false
 none_set ws zero none kept b l h =
     let word : b / 64 ≡ 0 = omega (arith, first_bit-suc 0, first_bit-zero) in
     is_set-no_bits ws b (ap (has_bits ws) word ∙ none)
@@ -67,8 +71,10 @@ none_set ws (suc depth) none kept b l h =
     let parent : b / 64 - 1 + 1 ≡ b / 64 = omega (arith, first_bit-suc depth) in
     let from : first_bit depth ≤ b / 64 - 1 = omega (arith, first_bit-suc depth) in
     let left : b / 64 - 1 < first_bit (suc depth) = omega (arith, first_bit-suc (suc depth)) in
-    let less : (q : ℕ) → q < first_bit depth → is_set ws q ≡ has_bits ws (q + 1) = λ q m. kept q (omega (arith, first_bit-suc depth)) in
-    is_set-no_bits ws b (ap (has_bits ws) (sym parent) ∙ sym (kept (b / 64 - 1) left) ∙ none_set ws depth none less (b / 64 - 1) from left)
+    let less : (q : ℕ) → q < first_bit depth → is_set ws q ≡ has_bits ws (q + 1) = λ q m. kept q
+    (omega (arith, first_bit-suc depth)) in
+    is_set-no_bits ws b (ap (has_bits ws) (sym parent) ∙ sym (kept (b / 64 - 1) left) ∙ none_set ws depth none less
+    (b / 64 - 1) from left)
 
 pub first_bit-mono : (d e : ℕ) → d ≤ e → first_bit d ≤ first_bit e
 first_bit-mono d zero l = let e : d ≡ 0 = omega arith in rw e (omega arith)
@@ -80,7 +86,8 @@ first_bit-mono d (suc e) l = elim (cases_eq d (suc e)) [
 pub below_leaf : (ws : List ℕ) (level depth bit : ℕ) → level < depth → IsLowestAt ws level bit → bit < first_bit depth
 below_leaf ws level depth bit l at = omega (arith, at.high, first_bit-mono (suc level) depth (omega arith))
 
-pub kept_below : (ws : List ℕ) (level depth : ℕ) → level < depth → ((b : ℕ) → b < first_bit depth → is_set ws b ≡ has_bits ws (b + 1)) → (b : ℕ) → b < first_bit (suc level) → is_set ws b ≡ has_bits ws (b + 1)
+pub kept_below : (ws : List ℕ) (level depth : ℕ) → level < depth → ((b : ℕ) → b < first_bit depth →
+    is_set ws b ≡ has_bits ws (b + 1)) → (b : ℕ) → b < first_bit (suc level) → is_set ws b ≡ has_bits ws (b + 1)
 kept_below ws level depth l kept b h = kept b (omega (arith, first_bit-mono (suc level) depth (omega arith)))
 
 -- whether a word has bits, from what was read there

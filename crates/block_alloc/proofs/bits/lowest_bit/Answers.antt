@@ -5,7 +5,8 @@ use Rattle.block_alloc.proofs.bits.lowest_bit.Goals as goal
 use Rattle.block_alloc.proofs.bits.lowest_bit.Goals.{Start}
 
 -- the lowest bit of the word
-found : (c : Start) → LowestOf c.args.words.now c.args.word (64 * c.args.word + trailing_zeros w64 (get_or c.args.words.now c.args.word 0))
+found : (c : Start) → LowestOf c.args.words.now c.args.word (64 * c.args.word + trailing_zeros w64
+    (get_or c.args.words.now c.args.word 0))
 found c =
     let fits : get_or c.args.words.now c.args.word 0 < 2 ^ 64 = omega (arith, c.type_inv.words c.args.word) in
     lowest_of c.args.words.now c.args.word c.requires.some fits

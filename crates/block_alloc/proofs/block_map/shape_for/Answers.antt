@@ -8,5 +8,8 @@ loop-leaf-init c = (sym first_bit-zero, omega arith, omega arith)
 
 pub loop-leaf-preserved : goal.loop-leaf-preserved
 loop-leaf-preserved c =
-    let one : suc c.loop-leaf.depth ≡ c.loop-leaf.depth + 1 = omega arith in
-    (ap (λ (n : ℕ). 64 * (n + 1)) c.loop-leaf.invariant.0 ∙ sym (first_bit-suc c.loop-leaf.depth) ∙ ap first_bit one, omega (arith, c.loop-leaf-test.true, c.ranges.blocks), omega (arith, c.loop-leaf.invariant.2))
+    let one : suc c.loop-leaf.depth ≡ c.loop-leaf.depth + 1 = omega arith in (
+      ap (λ (n : ℕ). 64 * (n + 1)) c.loop-leaf.invariant.0 ∙ sym (first_bit-suc c.loop-leaf.depth) ∙ ap first_bit one,
+      omega (arith, c.loop-leaf-test.true, c.ranges.blocks),
+      omega (arith, c.loop-leaf.invariant.2),
+    )

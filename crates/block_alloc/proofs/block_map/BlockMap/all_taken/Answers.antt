@@ -4,7 +4,8 @@ use Rattle.block_alloc.proofs.MapLaws.{kept_zeros, blocks_of-zeros}
 use Rattle.block_alloc.proofs.block_map.BlockMap.all_taken.Goals as goal
 use Rattle.block_alloc.proofs.block_map.BlockMap.all_taken.Goals.{In_ok-words}
 
-zeros : (c : In_ok-words) → c.in_ok-words.words.items ≡ replicate ((c.shape_for-depth.result.1 + c.args.blocks) / 64 + 1) 0
+zeros : (c : In_ok-words) → c.in_ok-words.words.items ≡ replicate ((c.shape_for-depth.result.1 + c.args.blocks) / 64 +
+    1) 0
 zeros c = search rules
 
 pub invariant_of-result : goal.invariant_of-result
@@ -14,4 +15,5 @@ invariant_of-result c =
     rw e (kept_zeros _ _ _ _ s.leaf s.room s.small (omega (arith, c.ranges.blocks)) (omega arith))
 
 pub returns : goal.returns
-returns c = ap (λ (ws : List ℕ). blocks_of ws c.shape_for-depth.result.1 c.args.blocks) (zeros (goal.at.returns c).In_ok-words) ∙ blocks_of-zeros _ _ _
+returns c = ap (λ (ws : List ℕ). blocks_of ws c.shape_for-depth.result.1 c.args.blocks)
+    (zeros (goal.at.returns c).In_ok-words) ∙ blocks_of-zeros _ _ _

@@ -10,7 +10,8 @@ pub give-requires-clause-taken : goal.give-requires-clause-taken
 give-requires-clause-taken c = filled_taken _ _ _ c.loop-block.invariant c.loop-block-test.true
 
 pub loop-block-init : goal.loop-block-init
-loop-block-init c = c.in_ok-map.ensures ∙ ap (λ (n : ℕ). replicate n false) (let e : c.args.blocks ≡ c.args.blocks - 0 = omega arith in e)
+loop-block-init c = c.in_ok-map.ensures ∙ ap (λ (n : ℕ). replicate n false) (let e : c.args.blocks ≡ c.args.blocks - 0
+    = omega arith in e)
 
 pub loop-block-preserved : goal.loop-block-preserved
 loop-block-preserved c = c.give.ensures.after ∙ filled_more _ _ _ c.loop-block.invariant c.loop-block-test.true
@@ -19,4 +20,5 @@ pub returns : goal.returns
 returns c =
     let end : c.loop-block.block ≡ c.args.blocks = omega arith in
     let none : c.args.blocks - c.loop-block.block ≡ 0 = omega arith in
-    c.loop-block.invariant ∙ ap (λ (n : ℕ). replicate c.loop-block.block true ++ replicate n false) none ∙ append-nil (replicate c.loop-block.block true) ∙ ap (λ (n : ℕ). replicate n true) end
+    c.loop-block.invariant ∙ ap (λ (n : ℕ). replicate c.loop-block.block true ++ replicate n false) none
+    ∙ append-nil (replicate c.loop-block.block true) ∙ ap (λ (n : ℕ). replicate n true) end
