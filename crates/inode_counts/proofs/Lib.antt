@@ -1,0 +1,4 @@
+pub mod CountLaws
+pub mod EditCounts
+pub mod LedLaws
+pub mod NodeCounts

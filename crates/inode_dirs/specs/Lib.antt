@@ -1,0 +1,4 @@
+pub mod Files
+pub mod SlotBytes
+pub mod Slots
+pub mod Table

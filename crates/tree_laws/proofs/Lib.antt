@@ -1,0 +1,2 @@
+pub mod CountChanges
+pub mod NameRows
