@@ -1,0 +1,10 @@
+mod CutLaws
+pub mod Forest
+pub mod Pieces
+mod RaiseLaws
+pub mod Sizes
+pub mod Steps
+pub mod Sums
+pub mod Tight
+pub mod Trees
+pub mod Words

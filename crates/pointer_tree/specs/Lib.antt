@@ -1,0 +1,4 @@
+pub mod Bytes
+pub mod Changes
+pub mod Size
+pub mod Tree

@@ -1,0 +1,16 @@
+//! Trees of pointers, which keep a run of blocks on a medium.
+#![tactic(auto)]
+
+mod cut;
+mod get;
+mod node;
+mod put;
+mod raise;
+mod read;
+
+pub use cut::cut_tree;
+pub use get::get_block;
+pub use node::Area;
+pub use put::put_block;
+pub use raise::raise_tree;
+pub use read::read_bytes;

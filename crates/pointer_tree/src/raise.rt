@@ -1,0 +1,41 @@
+//! A tree gets deeper.
+
+ghost use Rattle.std.specs.Prelude.{◌≡◌, ◌<◌, ◌≤◌, ◌+◌, ℕ, IfOk};
+ghost use Rattle.block_alloc.specs.Free.{free_count};
+ghost use Rattle.outside.specs.Causes.{WriteHasCause};
+ghost use Rattle.pointer_tree.specs.Changes.{IsTop, Fits, Stands, Raises};
+
+use crate::node::{Area, set_pointer, zero_block};
+use block_alloc::BlockMap;
+use outside::{Medium, MediumErr};
+
+/// Puts a tree under one more node, of which it is the first child, and answers its top. After an error nothing is
+/// known of the tree.
+pub fn raise_tree<M: Medium>(
+    medium: &mut M,
+    map: &mut BlockMap,
+    area: Area,
+    top: u32,
+) -> Result<u32, MediumErr>
+    requires fits { Fits area (M.size medium.old) map.old }
+    requires top_is { IsTop area top }
+    requires room { 0 < free_count map.old }
+    ensures ok { IfOk result (λ at. (d : ℕ) → Stands area d top (M.content medium.old) map.old →
+        Raises area d top (M.content medium.old) map.old at (M.content medium.new) map.new) }
+    ensures room { free_count map.old ≤ free_count map.new + 1 }
+    ensures size { M.size medium.new ≡ M.size medium.old }
+    ensures cause { WriteHasCause (M.faults medium.old) (M.faults medium.new) result }
+{
+    if top == 0 {
+        return Ok(0);
+    }
+    match map.take() {
+        Some(block) => {
+            let mut node = zero_block();
+            set_pointer(&mut node, 0, area, top);
+            medium.write(block, &node)?;
+            Ok(block)
+        }
+        None => unreachable!(),
+    }
+}
