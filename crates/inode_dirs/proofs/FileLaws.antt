@@ -1,6 +1,7 @@
 -- What a change of a directory's bytes is of the table.
 use Rattle.std.proofs.Common.{◌≡◌, ◌≢◌, ℕ, zero, suc, ◌*◌, ◌/◌, ◌^◌, ◌<◌, arith, List, [], ◌∷◌, ◌++◌, take, set, length, Option, Some, refl, ap, ◌∙◌}
 use Rattle.std.specs.Option.{option_map}
+use Rattle.nfs2_types.specs.declared.fattr.Kind.TheVariants.{Dir}
 use Rattle.inode_dirs.specs.Slots.{Slots}
 use Rattle.inode_dirs.specs.SlotBytes.{span, with_piece, slot_in, slot_bytes, slots_in}
 use Rattle.inode_dirs.specs.Table.{DirSlots, Entry}
@@ -25,7 +26,7 @@ others-same files files' i same j ne = ap (option_map entry_of) (same j ne)
 abbrev pub dir_entry : File → Slots → Entry
 dir_entry f ss = record { mode = f.mode; uid = f.uid; gid = f.gid; body = DirSlots ss }
 
-module _ (files : ℕ → Option File) (i : ℕ) (f : File) (is_dir : f.kind ≡ 2) (is : files i ≡ Some f) where
+module _ (files : ℕ → Option File) (i : ℕ) (f : File) (is_dir : f.kind ≡ Dir) (is : files i ≡ Some f) where
   -- a directory of so many slots
   pub dir-at : (n : ℕ) → length f.bytes ≡ span 288 slot_in n → table_of files i ≡ Some
       (dir_entry f (slots_in n f.bytes))
@@ -34,7 +35,7 @@ module _ (files : ℕ → Option File) (i : ℕ) (f : File) (is_dir : f.kind ≡
       ∙ ap (λ n. Some (dir_entry f (slots_in n f.bytes))) (count-slots n f.bytes size)
 
 -- the bytes with a slot at the end
-pub dir-append : (files : ℕ → Option File) (i : ℕ) (f : File) (n : ℕ) (name : List ℕ) (inode : ℕ) → f.kind ≡ 2 →
+pub dir-append : (files : ℕ → Option File) (i : ℕ) (f : File) (n : ℕ) (name : List ℕ) (inode : ℕ) → f.kind ≡ Dir →
     length f.bytes ≡ span 288 slot_in n → length (slot_bytes name inode) ≡ 288 → inode < 2 ^ 32 →
     length (f.bytes ++ slot_bytes name inode) ≡ span 288 slot_in (suc n) →
     files i ≡ Some (record f { bytes = f.bytes ++ slot_bytes name inode }) →
@@ -46,7 +47,7 @@ dir-append files i f n name inode is_dir size fits in_word size' is =
 
 -- the bytes with a slot in place of another, and cut to one slot less
 pub dir-drop : (files : ℕ → Option File) (i : ℕ) (f : File) (n k : ℕ) (name : List ℕ) (inode : ℕ) (b : List ℕ) →
-    f.kind ≡ 2 →
+    f.kind ≡ Dir →
     length f.bytes ≡ span 288 slot_in (suc n) → length (slot_bytes name inode) ≡ 288 → inode < 2 ^ 32 → k < suc n →
     b ≡ take (span 288 slot_in n) (with_piece 288 slot_in k (slot_bytes name inode) f.bytes) → length b ≡ span 288
     slot_in n →

@@ -1,21 +1,24 @@
 -- The table that files hold: each inode's kind, attributes and bytes.
-use Rattle.std.specs.Prelude.{ℕ, ◌/◌, ◌==◌, List, length, if◌then◌else◌, Option}
+use Rattle.std.specs.Prelude.{ℕ, ◌/◌, List, length, Option}
 use Rattle.std.specs.Option.{option_map}
+use Rattle.nfs2_types.specs.declared.fattr.Kind.{Kind}
+use Rattle.nfs2_types.specs.declared.fattr.Kind.TheVariants.{File as AFile, Dir, Link}
 use Rattle.inode_dirs.specs.SlotBytes.{slots_in}
 use Rattle.inode_dirs.specs.Table.{Body, FileBytes, LinkText, DirSlots, Entry, Table}
 
--- a used inode as a store of inodes has it: kind 1 is a file, 2 a directory, 3 a link
+-- a used inode as a store of inodes has it
 pub record File : Type 0 where
-  pub kind : ℕ
+  pub kind : Kind
   pub mode : ℕ
   pub uid : ℕ
   pub gid : ℕ
   pub bytes : List ℕ
 
 -- what bytes are, by the kind
-abbrev pub body_of : ℕ → List ℕ → Body
-body_of kind bytes = if kind == 1 then FileBytes bytes else if kind == 3 then LinkText bytes
-    else DirSlots (slots_in (length bytes / 288) bytes)
+abbrev pub body_of : Kind → List ℕ → Body
+body_of AFile bytes = FileBytes bytes
+body_of Dir bytes = DirSlots (slots_in (length bytes / 288) bytes)
+body_of Link bytes = LinkText bytes
 
 -- an inode with its bytes read
 abbrev pub entry_of : File → Entry
