@@ -1,4 +1,5 @@
 mod CutLaws
+pub mod DeepLaws
 pub mod Forest
 pub mod Pieces
 mod RaiseLaws
@@ -7,4 +8,5 @@ pub mod Steps
 pub mod Sums
 pub mod Tight
 pub mod Trees
+pub mod TreeUses
 pub mod Words

@@ -1,13 +1,13 @@
 -- Trees with no block past their first n, and no node above none.
-use Rattle.std.proofs.Common.{◌≡◌, ◌≢◌, ℕ, zero, suc, ◌-◌, ◌*◌, ◌^◌, ◌<◌, ◌≤◌, List, Bool, true, false, refl, ap, ◌∙◌, inl, inr, arith}
+use Rattle.std.proofs.Common.{◌≡◌, ◌≢◌, ℕ, zero, suc, ◌-◌, ◌*◌, ◌/◌, ◌%◌, ◌^◌, ◌<◌, ◌≤◌, List, Bool, true, false, refl, ap, ◌∙◌, inl, inr, arith}
 use Rattle.std.specs.Prelude.{◌==◌, ◌&&◌, ◌||◌, nat_lt}
 use Rattle.std.proofs.lemmas.Bool.{cases_eq, ne_eqb, ltb-true, lt-ltb}
 use Rattle.std.proofs.Math.Nat.{pow-suc}
-use Rattle.std.proofs.lemmas.Nat.{mul-le}
-use Rattle.pointer_tree.specs.Tree.{Content, pointer, uses}
+use Rattle.std.proofs.lemmas.Nat.{mul-le, div-add-mod'}
+use Rattle.pointer_tree.specs.Tree.{Content, zeros, pointer, block, uses}
 use Rattle.pointer_tree.specs.Size.{all_to, is_tight}
 use Rattle.pointer_tree.specs.declared.node.Area.{Area}
-use Rattle.pointer_tree.proofs.Trees.{uses_top, uses_child, pow_pos_128}
+use Rattle.pointer_tree.proofs.Trees.{uses_top, uses_child, pow_pos_128, block-none, block-node, remainder, quotient}
 
 or_true : (a b : Bool) → a ≡ false → (a || b) ≡ true → b ≡ true
 or_true true b e h = absurd (let bad : true ≡ false = e in cc)
@@ -112,4 +112,22 @@ same_tight area c c' (suc d) top n h t = elim (cases_eq top 0) [
       ∙ same_tight area c c' d (pointer area (c top) j) (n - j * 128 ^ d)
       (λ q u. h q (let b = uses_child area c d top j q ne l in omega (arith, u, b))) (tight_child area c d top n
       ne t j l))
+]
+
+-- a tree without blocks past its first n reads as zeros there
+pub tight_zeros : (area : Area) (c : Content) (d top n : ℕ) → is_tight area c d top n ≡ true → (k : ℕ) → n ≤ k →
+    k < 128 ^ d → block area c d top k ≡ zeros
+tight_zeros area c zero top n t k l h = elim (cases_eq top 0) [
+  | inl e ↦ ap (λ (p : ℕ). block area c 0 p k) e ∙ block-none area c 0 k
+  | inr ne ↦ absurd (let some = tight_leaf area c top n ne t in let one : 128 ^ 0 ≡ 1 = refl in
+      omega (arith, some, l, h, one))
+]
+tight_zeros area c (suc d) top n t k l h = elim (cases_eq top 0) [
+  | inl e ↦ ap (λ (p : ℕ). block area c (suc d) p k) e ∙ block-none area c (suc d) k
+  | inr ne ↦
+      let j = k / 128 ^ d in
+      let whole = div-add-mod' k (128 ^ d) in
+      block-node area c d top k ne
+      ∙ tight_zeros area c d (pointer area (c top) j) (n - j * 128 ^ d)
+      (tight_child area c d top n ne t j (quotient d k h)) (k % 128 ^ d) (omega (arith, whole, l)) (remainder d k)
 ]

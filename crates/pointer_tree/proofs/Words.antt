@@ -84,7 +84,7 @@ none_is : (b : Bool) → cond {A = ℕ} b 0 0 ≡ 0
 none_is true = refl
 none_is false = refl
 
-as_pointer-top : (area : Area) (p : ℕ) → IsTop area p → as_pointer area p ≡ p
+pub as_pointer-top : (area : Area) (p : ℕ) → IsTop area p → as_pointer area p ≡ p
 as_pointer-top area p (inr is) = as_pointer-block area p is
 as_pointer-top area p (inl e) = rw e (none_is (nat_le area.first 0 && nat_lt 0 area.end))
 
@@ -118,7 +118,7 @@ pub pointer_kept : (area : Area) (xs : List ℕ) (j i x y z w : ℕ) → i ≢ j
 unfolding pointer
 pointer_kept area xs j i x y z w ne = ap (as_pointer area) (word_kept xs j i x y z w ne)
 
-zeros_at : (k : ℕ) → get_or zeros k 0 ≡ 0
+pub zeros_at : (k : ℕ) → get_or zeros k 0 ≡ 0
 unfolding zeros
 zeros_at k = elim (cases_lt k 512) [
   | inl l ↦ get_or-replicate 512 k 0 0 l

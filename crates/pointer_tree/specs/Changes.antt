@@ -78,3 +78,13 @@ pub record Raises (area : Area) (d top : ℕ) (c : Content) (m : List Bool) (top
   pub past : (k : ℕ) → 128 ^ d ≤ k → k < 128 ^ (suc d) → block area c' (suc d) top' k ≡ zeros
   pub top_is : IsTop area top'
   pub tight : (n : ℕ) → is_tight area c d top n ≡ true → is_tight area c' (suc d) top' n ≡ true
+
+-- The tree stands under as many more nodes as make it deeper.
+pub record Deepens (area : Area) (d top : ℕ) (c : Content) (m : List Bool) (d' top' : ℕ) (c' : Content)
+    (m' : List Bool) : Type 0 where
+  pub moves : Moves area d top c m d' top' c' m'
+  pub deeper : d ≤ d'
+  pub same : (k : ℕ) → k < 128 ^ d → block area c' d' top' k ≡ block area c d top k
+  pub past : (k : ℕ) → 128 ^ d ≤ k → k < 128 ^ d' → block area c' d' top' k ≡ zeros
+  pub top_is : IsTop area top'
+  pub tight : (n : ℕ) → is_tight area c d top n ≡ true → is_tight area c' d' top' n ≡ true

@@ -12,5 +12,5 @@ pub use cut::cut_tree;
 pub use get::get_block;
 pub use node::Area;
 pub use put::put_block;
-pub use raise::raise_tree;
+pub use raise::{deepen_tree, raise_tree};
 pub use read::read_bytes;

@@ -1,6 +1,6 @@
 //! One block of a tree is written.
 
-ghost use Rattle.std.specs.Prelude.{◌≡◌, ◌≢◌, ◌<◌, ◌≤◌, ◌+◌, ◌^◌, ℕ, OnOk, IfOk};
+ghost use Rattle.std.specs.Prelude.{◌≡◌, ◌≢◌, ◌<◌, ◌≤◌, ◌+◌, ◌^◌, ℕ, length, OnOk, IfOk};
 ghost use Rattle.block_alloc.specs.Free.{free_count};
 ghost use Rattle.outside.specs.Causes.{WriteHasCause};
 ghost use Rattle.pointer_tree.specs.Tree.{IsBlock, pointer};
@@ -24,6 +24,7 @@ fn rooted<M: Medium>(
         Roots area d top (M.content medium.old) map.old at (M.content medium.new) map.new) }
     ensures at { IfOk result (λ at. IsBlock area at) }
     ensures room { free_count map.old ≤ free_count map.new + 1 }
+    ensures len { length map.new ≡ length map.old }
     ensures size { M.size medium.new ≡ M.size medium.old }
     ensures cause { WriteHasCause (M.faults medium.old) (M.faults medium.new) result }
 {
@@ -81,6 +82,7 @@ pub fn put_block<M: Medium>(
     ensures ok { IfOk result (λ next.
         Puts area depth top index bytes.now (M.content medium.old) map.old next (M.content medium.new) map.new) }
     ensures room { free_count map.old ≤ free_count map.new + (depth + 1) }
+    ensures len { length map.new ≡ length map.old }
     ensures size { M.size medium.new ≡ M.size medium.old }
     ensures cause { WriteHasCause (M.faults medium.old) (M.faults medium.new) result }
 {
