@@ -1,0 +1,6 @@
+mod ByteLaws
+mod ChangeLaws
+mod InodeWords
+mod OpLaws
+mod ResizeLaws
+mod WriteLaws

@@ -1,0 +1,5 @@
+pub mod Files
+pub mod Inodes
+pub mod Keeps
+pub mod Kinds
+pub mod Written
