@@ -143,11 +143,10 @@ module _ (S : Service) (Server Table Limits : Type 0) (count : Server → ℕ) (
       × AreStruck Server Limits count limits m ms servers servers')
 
   -- The clause of a step, for an answer other than NoMemory: from whatever steady state the cluster and the
-  -- bench stand for, with whatever lines before,
-  -- there are moments that a loose step may give; at the last of them cluster and bench stand for its
-  -- state, which is steady; the lines are those printed since;
-  -- each server failed as often as it was struck, at least, and not where it was not; the step is right;
-  -- and the fault points that the call appends to the bench's list are those that it met, in order.
+  -- bench stand for, with whatever lines before, there are moments that a loose step may give; at the last of
+  -- them cluster and bench stand for its state, which is steady; the lines are those printed since; each server
+  -- failed as often as it was struck, at least, and not where it was not; the step is right; and the fault
+  -- points that the call appends to the bench's list are those that it met, in order.
   abbrev pub Steps : ClusterView → List Server → List Table → List FaultPoint → Event → ClusterView →
       List Server → List Table → List FaultPoint → List Line → Type 0
   Steps old servers tables downs event new servers' tables' downs' lines =

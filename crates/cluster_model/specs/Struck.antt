@@ -14,8 +14,7 @@ IsInBench n _ = Unit {0}
 
 module _ (Server Limits : Type 0) (count : Server → ℕ) (limits : Server → Limits) where
   -- y is the server x later: with at least so many more failures, where a count at its greatest value stays
-  -- there, and with none
-  -- where none was met
+  -- there, and with none where none was met
   pub record IsLater (n : ℕ) (x y : Server) : Type 0 where
     pub same_limits : limits y ≡ limits x
     pub rose : min (count x + n) (2 ^ 64 - 1) ≤ count y

@@ -22,8 +22,7 @@ use Rattle.abs_model.specs.Array.{handle_at}
 use Rattle.dispatch.specs.Answer.{Answer, stays, refused, accepted}
 
 -- the header of a call (CALL is 0) of RPC version 2, of a procedure of this program in this version, 0 to the
--- last,
--- whose credential names this caller
+-- last, whose credential names this caller
 pub record CallsProgram (prog vers last : ℕ) (h : Header) (caller : Cred) : Type 0 where
   pub kind : h.kind ≡ 0
   pub rpcvers : h.rpcvers ≡ 2

@@ -11,9 +11,8 @@ use Rattle.conf_map.specs.Tallied.{Tallied}
 use Rattle.conf_map.specs.Notice.{NoticedAll}
 use Rattle.dispatch.specs.Answer.{Answer}
 
--- An answer is given: its word is said, tree and table stand for its array, which is valid, the table's tally
--- is right,
--- and its objects are told.
+-- An answer is given: its word is said, tree and table stand for its array, which is valid, the table's tally is
+-- right, and its objects are told.
 pub record Answers {M : Type 0} (told_of : M → List ℕ) (noticed : M → List Entry → ℕ → M → Type 0)
     (limits : Limits) (A : List Entry) (a : Answer)
     (word : Word) (tree : Option Tree) (table : ConfTable) (old new : M) : Type 0 where
