@@ -1,16 +1,15 @@
 -- Words by voter and place, over lists of what each voter has.
-use Rattle.std.proofs.Common.{inl, inr, ⊎_elim, ◌≡◌, ◌≢◌, ℕ, zero, suc, ◌+◌, ◌<◌, ◌≤◌, Bool, true, false, cond, List, [], ◌∷◌, ◌++◌, map, take, length, slice_get, slice_set, get_or, nat_le, Option, Some, None, option_map, refl, sym, ◌∙◌, ap, subst, arith}
+use Rattle.std.proofs.Common.{⊎_elim, ◌≡◌, ◌≢◌, ℕ, zero, suc, ◌+◌, ◌<◌, ◌≤◌, Bool, true, false, cond, List, [], ◌∷◌, map, take, length, slice_get, slice_set, get_or, nat_le, Option, Some, None, option_map, refl, sym, ◌∙◌, ap, subst, arith}
 use Rattle.std.specs.Option.{option_and_then}
 use Rattle.std.specs.List.{All, count_by}
 use Rattle.std.proofs.lemmas.List.{length-set, length-map}
 use Rattle.std.proofs.lemmas.Bool.{cases_eq}
-use Rattle.std.proofs.lemmas.Option.{slice_get-map, slice_get-get_or, slice_get_read, slice_get_past}
+use Rattle.std.proofs.lemmas.Option.{slice_get-map, slice_get_read, slice_get_past}
 use Rattle.nfs2_types.specs.declared.Word.{Word}
-use Rattle.cluster_model.specs.State.{is_word}
 use Rattle.cluster_model.proofs.Same.{slice_get-All}
 use Rattle.cluster_model.proofs.Counting.{bit, count_by-cons}
 use Rattle.reply_vote.specs.declared.standing.Standing.{Standing}
-use Rattle.reply_vote.specs.Ballots.{Ballot, ballot, word_at, votes_for, Casts, Withdraws, Drops, SameWords}
+use Rattle.reply_vote.specs.Ballots.{Ballot, ballot, word_at, Casts, Withdraws, SameWords}
 
 -- the word of a voter, from the list of what voters have
 pub at_voter : (xs : List Standing) (r p : ℕ) → word_at (map ballot xs) r p ≡ option_and_then (λ s. ballot s p) (slice_get xs r)
@@ -143,3 +142,19 @@ some_same {X} {x} e = ap (or_this x) e
     or_this : X → Option X → X
     or_this d None = d
     or_this d (Some z) = z
+
+-- FORGETTING A PLACE
+
+-- where the word of voter r for place p goes, all else stays
+module _ (xs : List Standing) (r p : ℕ) (s old : Standing) (within : r < length xs) (was : slice_get xs r ≡ Some old)
+    (gone : ballot s p ≡ None) (kept : (q : ℕ) → q ≢ p → ballot s q ≡ ballot old q) where
+  pub forgot_here : (k : ℕ) → k ≡ r → word_at (map ballot (slice_set xs r s)) k p ≡ None
+  forgot_here k e = subst (λ j. word_at (map ballot (slice_set xs r s)) j p ≡ None) (sym e)
+      (now_here xs r s within p ∙ gone)
+
+  pub forgot_others : (k q : ℕ) → q ≢ p → word_at (map ballot (slice_set xs r s)) k q ≡ word_at (map ballot xs) k q
+  forgot_others k q ne = ⊎_elim
+      (λ e. subst (λ j. word_at (map ballot (slice_set xs r s)) j q ≡ word_at (map ballot xs) j q) (sym e)
+      (now_here xs r s within q ∙ kept q ne ∙ sym (was_here xs r s within old was q)))
+      (λ other. now_elsewhere xs r s within k q other)
+      (cases_eq k r)

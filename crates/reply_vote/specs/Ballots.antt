@@ -40,6 +40,12 @@ pub record Withdraws (r : ℕ) (old new : List Ballot) : Type 0 where
   pub here : (p : ℕ) → word_at new r p ≡ None
   pub voters : (k q : ℕ) → k ≢ r → word_at new k q ≡ word_at old k q
 
+-- no word for place p stands, and all else is as before
+pub record Forgets (p : ℕ) (old new : List Ballot) : Type 0 where
+  pub size : length new ≡ length old
+  pub here : (k : ℕ) → word_at new k p ≡ None
+  pub places : (k q : ℕ) → q ≢ p → word_at new k q ≡ word_at old k q
+
 -- no word for a place up to p stands, and all else is as before
 pub record Drops (p : ℕ) (old new : List Ballot) : Type 0 where
   pub size : length new ≡ length old

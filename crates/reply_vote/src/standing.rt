@@ -60,6 +60,14 @@ impl Standing {
         }
     }
 
+    /// Forgets the word for a place. It takes no memory.
+    pub fn forget(&mut self, place: u32)
+        ensures here { ballot self.new place ≡ None }
+        ensures others { (q : ℕ) → q ≢ place → ballot self.new q ≡ ballot self.old q }
+    {
+        self.words.remove(&place);
+    }
+
     /// Forgets the words for places up to this one. It takes no memory.
     pub fn drop_to(&mut self, place: u32)
         ensures { (q : ℕ) → ballot self.new q ≡ cond (nat_le q place) None (ballot self.old q) }

@@ -9,6 +9,7 @@ use std::test::Fail;
 enum Case {
     Cast(u32, u32, u8),
     Withdraw(u32),
+    Forget(u32),
     DropTo(u32),
     Decided(u32, Option<u8>),
 }
@@ -48,6 +49,12 @@ fn two_equal_words_decide(rt: HostRuntime) -> Result<(), Fail> {
         Case::Cast(1, 2, 5),
         Case::Cast(0, 3, 6),
         Case::Cast(2, 3, 6),
+        // The words for one place go, and those for others stay.
+        Case::Forget(2),
+        Case::Decided(2, None),
+        Case::Decided(3, Some(6)),
+        Case::Cast(0, 2, 5),
+        Case::Cast(1, 2, 5),
         Case::DropTo(2),
         Case::Decided(2, None),
         Case::Decided(3, Some(6)),
@@ -65,6 +72,7 @@ fn two_equal_words_decide(rt: HostRuntime) -> Result<(), Fail> {
                     votes.withdraw(alloc, voter);
                 }
             }
+            Case::Forget(place) => votes.forget(place),
             Case::DropTo(place) => votes.drop_to(place),
             Case::Decided(place, wanted) => assert!(rt; is_decided(&votes, place, wanted)),
         }

@@ -4,7 +4,7 @@ ghost use Rattle.std.specs.Option.{option_copied};
 ghost use Rattle.std.specs.Prelude.{◌≡◌, ◌<◌, ◌≤◌, ℕ, None, Some, List, Option, IfOk, OnOk, OnErr, length, count_by};
 ghost use Rattle.nfs2_types.specs.declared.Word.{Word as SpecWord};
 ghost use Rattle.cluster_model.specs.State.{is_word};
-ghost use Rattle.reply_vote.specs.Ballots.{ballots, word_at, votes_for, Casts, Withdraws, Drops, SameWords, IsDecided};
+ghost use Rattle.reply_vote.specs.Ballots.{ballots, word_at, votes_for, Casts, Withdraws, Forgets, Drops, SameWords, IsDecided};
 
 use crate::standing::{Standing, is_same};
 use nfs2_types::{NoMemory, Word};
@@ -58,6 +58,16 @@ impl Votes {
         ensures threshold { self.new.threshold ≡ self.old.threshold }
     {
         self.voters[voter as usize] = Standing::new(alloc);
+    }
+
+    /// Forgets the words for a place. It takes no memory.
+    pub fn forget(&mut self, place: u32)
+        ensures forgets { Forgets place (ballots self.old) (ballots self.new) }
+        ensures threshold { self.new.threshold ≡ self.old.threshold }
+    {
+        for voter in 0..self.voters.len() {
+            self.voters[voter].forget(place);
+        }
     }
 
     /// Forgets the words for places up to this one. It takes no memory.

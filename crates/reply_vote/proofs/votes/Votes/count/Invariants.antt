@@ -1,4 +1,4 @@
-use Rattle.std.proofs.Common.{◌≡◌, ◌≤◌, ℕ, take}
+use Rattle.std.proofs.Common.{◌≡◌, ◌≤◌, take}
 use Rattle.std.specs.List.{count_by}
 use Rattle.cluster_model.specs.State.{is_word}
 use Rattle.reply_vote.specs.Ballots.{ballot}

@@ -1,4 +1,4 @@
-use Rattle.std.proofs.Common.{refl, ◌≡◌, ◌<◌, ℕ, length, map, sym, ◌∙◌, ap, subst, ⊎_elim, Some, None, arith}
+use Rattle.std.proofs.Common.{refl, ◌≡◌, ◌<◌, length, map, sym, ◌∙◌, ap, subst, ⊎_elim, Some, None, arith}
 use Rattle.std.specs.Option.{option_copied}
 use Rattle.std.proofs.lemmas.Bool.{cases_eq}
 use Rattle.std.proofs.lemmas.List.{length-map}

@@ -1,8 +1,8 @@
-use Rattle.std.proofs.Common.{refl, ◌≡◌, ◌≢◌, ℕ, ◌+◌, ◌<◌, ◌≤◌, length, map, subst, sym, ◌∙◌, ap, cond, nat_le, None, inl, inr, ⊎_elim, arith}
+use Rattle.std.proofs.Common.{refl, ◌≡◌, ℕ, ◌<◌, ◌≤◌, length, sym, ◌∙◌, ap, cond, nat_le, None, ⊎_elim, arith}
 use Rattle.std.proofs.lemmas.Bool.{cases_eq, cases_lt}
 use Rattle.std.proofs.lemmas.List.{length-map, length-set}
 use Rattle.std.proofs.lemmas.Option.{slice_get_read}
-use Rattle.reply_vote.specs.Ballots.{ballot, word_at, ballots, Drops}
+use Rattle.reply_vote.specs.Ballots.{ballot, word_at, ballots}
 use Rattle.reply_vote.proofs.BallotLists.{now_elsewhere, drop_one, no_word_past, none_both}
 use Rattle.reply_vote.proofs.votes.Votes.drop_to.Goals as goal
 

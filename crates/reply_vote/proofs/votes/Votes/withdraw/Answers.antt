@@ -1,4 +1,4 @@
-use Rattle.std.proofs.Common.{◌≡◌, ◌<◌, length, subst}
+use Rattle.std.proofs.Common.{◌<◌, subst}
 use Rattle.std.proofs.lemmas.List.{length-map}
 use Rattle.reply_vote.specs.Ballots.{ballot}
 use Rattle.reply_vote.proofs.BallotLists.{withdraws_set}
