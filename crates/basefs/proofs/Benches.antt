@@ -1,5 +1,5 @@
 -- What a bench lacks.
-use Rattle.std.proofs.Common.{◌≡◌, ℕ, ◌+◌, ◌*◌, ◌<◌, ◌≤◌, Bool, true, false, cond, ltb, List, [], ◌∷◌, length, drop, get_or, slice_get, Some, None, refl, sym, ap, subst, ◌∙◌, arith}
+use Rattle.std.proofs.Common.{◌≡◌, ℕ, zero, suc, ◌+◌, ◌*◌, ◌<◌, ◌≤◌, Bool, true, false, cond, ltb, List, [], ◌∷◌, length, drop, get_or, slice_get, Some, None, refl, sym, ap, subst, ◌∙◌, arith}
 use Rattle.std.specs.List.{position_from}
 use Rattle.std.proofs.lemmas.List.{drop_more, drop_all}
 use Rattle.server_trait.specs.declared.ServerLimits.{ServerLimits}
@@ -37,18 +37,29 @@ refuses_small most h servers s enough e =
     let is : ltb (length servers) (3 * h.f + 1) ≡ false = grind (arith, enough) in
     (too_small s, refl, tt, λ log. rw (is, e) refl)
 
--- there are enough of them, and none is too small
-pub refuses_none : {X : Type 0} (most : X → ServerLimits) (h : Header) (servers : List X) → 3 * h.f + 1 ≤ length servers → position_from (λ s. is_small h (most s)) 0 servers ≡ None → Refuses most h servers None
-refuses_none {X} most h servers enough e =
-    let is : ltb (length servers) (3 * h.f + 1) ≡ false = grind (arith, enough) in
-    (enough, λ x at. first_fails (λ s. is_small h (most s)) servers x at e, λ log. rw (is, e) refl)
+first_fails : {X : Type 0} (t : X → Bool) (n r : ℕ) (xs : List X) (x : X) → slice_get xs r ≡ Some x →
+    position_from t n xs ≡ None → t x ≡ false
+first_fails t n r [] x at none = absurd (let g : None ≡ Some x = at in cc)
+first_fails t n zero (y ∷ xs) x at none =
+    let same : y ≡ x = (let g : Some y ≡ Some x = at in cc) in
+    subst (λ z. t z ≡ false) same (by (t y) refl none)
   where
-    first_fails : (t : X → Bool) (xs : List X) (x : X) → slice_get xs 0 ≡ Some x → position_from t 0 xs ≡ None → t x ≡ false
-    first_fails t [] x at none = absurd (let g : None ≡ Some x = at in cc)
-    first_fails t (y ∷ xs) x at none =
-        let same : y ≡ x = (let g : Some y ≡ Some x = at in cc) in
-        subst (λ z. t z ≡ false) same (by (t y) refl none)
-      where
-        by : (b : Bool) → t y ≡ b → cond b (Some 0) (position_from t 1 xs) ≡ None → t y ≡ false
-        by true e none = absurd (let g : Some 0 ≡ None = none in cc)
-        by false e none = e
+    by : (b : Bool) → t y ≡ b → cond b (Some n) (position_from t (n + 1) xs) ≡ None → t y ≡ false
+    by true e none = absurd (let g : Some n ≡ None = none in cc)
+    by false e none = e
+first_fails t n (suc r) (y ∷ xs) x at none = by (first_fails t (n + 1) r xs x at) (t y) none
+  where
+    by : (position_from t (n + 1) xs ≡ None → t x ≡ false) → (b : Bool) →
+        cond b (Some n) (position_from t (n + 1) xs) ≡ None → t x ≡ false
+    by rest true none = absurd (let g : Some n ≡ None = none in cc)
+    by rest false none = rest none
+
+-- there are enough of them, and none is too small
+pub refuses_none : {X : Type 0} (most : X → ServerLimits) (h : Header) (servers : List X) →
+    3 * h.f + 1 ≤ length servers → position_from (λ s. is_small h (most s)) 0 servers ≡ None → Refuses most h servers None
+refuses_none most h servers enough e =
+    let is : ltb (length servers) (3 * h.f + 1) ≡ false = grind (arith, enough) in (
+      enough,
+      λ r x at. first_fails (λ s. is_small h (most s)) 0 r servers x at e,
+      λ log. rw (is, e) refl,
+    )

@@ -9,7 +9,8 @@ use Rattle.basefs.specs.declared.status.Status.{Status}
 use Rattle.basefs.specs.declared.status.Status.TheVariants as status
 use Rattle.basefs.specs.Log.{Log, log_of}
 use Rattle.basefs.specs.Run.{Says, Ends, status_of, IsFault}
-use Rattle.basefs.specs.Replayed.{Setting, Early, Started, Replayed}
+use Rattle.basefs.specs.Setting.{Setting}
+use Rattle.basefs.specs.Replayed.{Replayed}
 
 says_exactly : (log : List ℕ → Log) (s : Status) (bytes taken rest : List ℕ) (events : List Event) → bytes ≡ taken ++ rest → Says s log taken (Some rest) events → (s ≡ status_of (log bytes).stop) ⊎ IsFault s
 says_exactly log status.Done bytes taken rest events e h =
@@ -37,17 +38,15 @@ ends_no_usage : (old left : Option (List ℕ)) (log : List ℕ → Log) (s : Sta
 ends_no_usage old left log s events p e = subst (λ (t : Status). Says t log p.taken left events) e p.says
 
 module _ {X : Type 0} (state : X → Server) (old new : Setting X) (s : Status) where
-  pub replayed_exactly : Replayed state old new s → IfSome old.left (λ bytes. (s ≡ status_of (log_of (λ x. (state x).limits) old.servers bytes).stop) ⊎ IsFault s)
-  replayed_exactly r = by r.came
-    where
-      by : Early state old new s ⊎ Started state old new s → IfSome old.left (λ bytes. (s ≡ status_of (log_of (λ x. (state x).limits) old.servers bytes).stop) ⊎ IsFault s)
-      by (inl h) = ends_exactly old.left new.left (log_of (λ x. (state x).limits) old.servers) s [] h.stopped.ends
-      by (inr h) = ends_exactly old.left new.left (log_of (λ x. (state x).limits) old.servers) s h.ran.events h.ran.ends
+  abbrev log : List ℕ → Log
+  log = log_of (λ x. (state x).limits) old.servers
+
+  pub replayed_exactly : Replayed state old new s →
+      IfSome old.left (λ bytes. (s ≡ status_of (log_of (λ x. (state x).limits) old.servers bytes).stop) ⊎ IsFault s)
+  replayed_exactly (inl h) = ends_exactly old.left new.left log s [] h.stopped.ends
+  replayed_exactly (inr h) = ends_exactly old.left new.left log s h.ran.events h.ran.ends
 
   -- a replay is no wrong command
   pub replayed_no_usage : Replayed state old new s → s ≡ status.Usage → ⊥
-  replayed_no_usage r = by r.came
-    where
-      by : Early state old new s ⊎ Started state old new s → s ≡ status.Usage → ⊥
-      by (inl h) e = ends_no_usage old.left new.left (log_of (λ x. (state x).limits) old.servers) s [] h.stopped.ends e
-      by (inr h) e = ends_no_usage old.left new.left (log_of (λ x. (state x).limits) old.servers) s h.ran.events h.ran.ends e
+  replayed_no_usage (inl h) e = ends_no_usage old.left new.left log s [] h.stopped.ends e
+  replayed_no_usage (inr h) e = ends_no_usage old.left new.left log s h.ran.events h.ran.ends e

@@ -1,9 +1,12 @@
-pub mod Beginning
-pub mod Benches
-pub mod Exact
+pub mod Numbers
+pub mod Running
+pub mod Places
 pub mod Points
 pub mod Records
-pub mod Replaying
-pub mod Stepped
 pub mod Taking
+pub mod Stepped
 pub mod Turning
+pub mod Beginning
+pub mod Benches
+pub mod Replaying
+pub mod Exact

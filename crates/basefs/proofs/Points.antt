@@ -7,26 +7,23 @@ use Rattle.std.proofs.lemmas.List.{get_or_append_left, get_or-append_right}
 use Rattle.std.proofs.lemmas.List.Elements.{All-append}
 use Rattle.nfs2_types.specs.declared.Limits.{Limits}
 use Rattle.server_trait.specs.declared.FaultPoint.{FaultPoint}
-use Rattle.basefs.specs.Run.{ArePoints}
+use Rattle.basefs.specs.Servers.{ArePoints}
 
-abbrev IsOf : ℕ → FaultPoint → Type 0
-IsOf n d = (d.event ≡ n) × (d.replica ≡ 0)
+abbrev pub IsOf : Limits → ℕ → FaultPoint → Type 0
+IsOf limits n d = (d.event ≡ n) × (d.replica < 3 * limits.f + 1)
 
 abbrev event_of : FaultPoint → ℕ
 event_of d = d.event
 
-replica_below : (f r : ℕ) → r ≡ 0 → r < 3 * f + 1
-replica_below f r is = omega (arith, is)
-
 -- the fault points of one record, or of the start
-pub points_of : (limits : Limits) (n : ℕ) (met : List FaultPoint) → All (IsOf n) met → ArePoints limits n met
+pub points_of : (limits : Limits) (n : ℕ) (met : List FaultPoint) → All (IsOf limits n) met → ArePoints limits n met
 points_of limits n met of = record {
   rising = λ i j d le within. (let a : (get_or met i d).event ≡ n = (of i d (omega (arith, le, within))).0 in let b : (get_or met j d).event ≡ n = (of j d within).0 in omega (arith, a, b));
   events = λ k d within. (let a : (get_or met k d).event ≡ n = (of k d within).0 in omega (arith, a));
-  replicas = λ k d within. replica_below limits.f (get_or met k d).replica (of k d within).1;
+  replicas = λ k d within. (of k d within).1;
 }
 
-module _ (downs met : List FaultPoint) (n : ℕ) (old : All (λ (d : FaultPoint). d.event ≤ n) downs) (sorted : IsNonDecreasingBy event_of downs) (new : All (IsOf (suc n)) met) where
+module _ (limits : Limits) (downs met : List FaultPoint) (n : ℕ) (old : All (λ (d : FaultPoint). d.event ≤ n) downs) (sorted : IsNonDecreasingBy event_of downs) (new : All (IsOf limits (suc n)) met) where
   behind : (j : ℕ) (d : FaultPoint) → length downs ≤ j → j < length (downs ++ met) → (get_or (downs ++ met) j d).event ≡ suc n
   behind j d past within =
       subst (λ (x : FaultPoint). x.event ≡ suc n) (let e = get_or-append_right downs met (length downs) j d refl past in sym e)
@@ -45,11 +42,11 @@ module _ (downs met : List FaultPoint) (n : ℕ) (old : All (λ (d : FaultPoint)
       by (inr a) (inr b) = let x = behind i d a (omega (arith, le, within)) in let y = behind j d b within in omega (arith, x, y)
 
 -- the fault points of one record more
-pub points_then : (limits : Limits) (n : ℕ) (downs met : List FaultPoint) → ArePoints limits n downs → All (IsOf (suc n)) met → ArePoints limits (suc n) (downs ++ met)
+pub points_then : (limits : Limits) (n : ℕ) (downs met : List FaultPoint) → ArePoints limits n downs → All (IsOf limits (suc n)) met → ArePoints limits (suc n) (downs ++ met)
 points_then limits n downs met p new =
     let q = points_of limits (suc n) met new in
     record {
-      rising = rising_more downs met n p.events p.rising new;
+      rising = rising_more limits downs met n p.events p.rising new;
       events = All-append (λ (d : FaultPoint). d.event ≤ suc n) downs met (λ k d within. (let a : (get_or downs k d).event ≤ n = p.events k d within in omega (arith, a))) q.events;
       replicas = All-append (λ (d : FaultPoint). d.replica < 3 * limits.f + 1) downs met p.replicas q.replicas;
     }

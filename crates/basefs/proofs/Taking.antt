@@ -9,8 +9,8 @@ use Rattle.log_stream.specs.declared.ReadErr.{ReadErr}
 use Rattle.log_stream.specs.declared.ReadErr.TheVariants as read
 use Rattle.log_stream.specs.Reading.{Refuses, Reads}
 use Rattle.log_stream.proofs.Taken.{Consumes-none, Consumes-then}
-use Rattle.cluster.specs.declared.Request.{Request}
-use Rattle.cluster.specs.Run.{asked_by}
+use Rattle.cluster_model.specs.declared.Request.{Request}
+use Rattle.cluster.specs.Steps.{asked_by}
 use Rattle.basefs.specs.declared.status.Status.{Status}
 use Rattle.basefs.specs.declared.status.Status.TheVariants as status
 use Rattle.basefs.specs.declared.verdict.Verdict.TheVariants as verdict

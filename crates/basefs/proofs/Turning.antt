@@ -1,5 +1,5 @@
 -- What a turn of a run comes to.
-use Rattle.std.proofs.Common.{◌≡◌, ◌⊎◌, inl, inr, ℕ, zero, suc, ◌+◌, ◌≤◌, List, [], ◌∷◌, ◌++◌, Option, None, Result, Ok, Err, refl, sym, ap, subst, ◌∙◌}
+use Rattle.std.proofs.Common.{◌≡◌, ◌⊎◌, inl, inr, ℕ, zero, suc, ◌+◌, ◌*◌, List, [], ◌∷◌, ◌++◌, length, Option, None, Result, Ok, Err, refl, sym, ap, subst, ◌∙◌}
 use Rattle.std.proofs.lemmas.List.{append-nil}
 use Rattle.nfs2_types.specs.declared.Limits.{Limits}
 use Rattle.server_trait.specs.Tree.{Server}
@@ -15,9 +15,11 @@ use Rattle.log_stream.specs.declared.ReadErr.{ReadErr}
 use Rattle.log_stream.specs.declared.ReadErr.TheVariants as read
 use Rattle.log_stream.specs.Reading.{Reads}
 use Rattle.outside.specs.declared.SinkErr.TheVariants as sink
-use Rattle.cluster.specs.declared.Request.{Request}
-use Rattle.cluster.specs.Run.{asked_by}
+use Rattle.cluster_model.specs.declared.Request.{Request}
+use Rattle.cluster_model.specs.Calm.{IsHarmless}
+use Rattle.cluster.specs.Positions.{AreLater}
 use Rattle.cluster.specs.OverBench.{Kept}
+use Rattle.cluster.specs.Steps.{asked_by}
 use Rattle.basefs.specs.declared.run_err.RunErr.{RunErr}
 use Rattle.basefs.specs.declared.run_err.RunErr.TheVariants as run
 use Rattle.basefs.specs.declared.status.Status.{Status}
@@ -25,10 +27,11 @@ use Rattle.basefs.specs.declared.status.Status.TheVariants as status
 use Rattle.basefs.specs.declared.verdict.Verdict.TheVariants as verdict
 use Rattle.basefs.specs.declared.turn.Turn.TheVariants as turns
 use Rattle.basefs.specs.Log.{Log, stops, behind_last, judge, records_from}
-use Rattle.basefs.specs.Run.{IsPrefix, HoldsOf, Says, Snapshot, Ends, Ran}
+use Rattle.basefs.specs.Setting.{Setting, setting}
+use Rattle.basefs.specs.Run.{IsPrefix, HoldsOf, Says, Ends, Ran}
 use Rattle.basefs.specs.Going.{Goes, Going, Turns, FinishSays, Finishes, read_status, run_status}
-use Rattle.basefs.specs.Turns.{snapshot, Stepped, Written}
-use Rattle.basefs.proofs.Records.{records_zero, records_none}
+use Rattle.basefs.specs.Turns.{Stepped, Written}
+use Rattle.basefs.proofs.Records.{records_zero, records_none, goes_harmless, ends_harmless}
 use Rattle.basefs.proofs.Taking.{Ends-then, Goes-then, HoldsOf-always, over_read, over_wrong, over_waits, over_memory, one_goes, last_goes, over_finish, over_most}
 use Rattle.basefs.proofs.Stepped.{here_more, text_more, ran_here, ran_short, cut_here, cut_whole, printed_all, printed_part, appended_all}
 
@@ -71,94 +74,179 @@ finish_no_write {left = left} {place = place} p e = subst (λ (s : Status). Fini
 
 -- WHERE A RUN STOPS
 
--- the run stops, and nothing was stepped
-pub stops_here : {limits : Limits} {servers : ℕ} {log : List ℕ → Log} {old : Snapshot} {left left' held : Option (List ℕ)} {server : Server} {table : ConfTable} {downs : List FaultPoint} {kept : Kept} {n place : ℕ} {s : Status} →
-    limits.f ≡ 0 → Going limits servers log old (snapshot left held server table downs) kept n place → (s ≡ status.WriteFault → ⊥) → Ends left left' (records_from n limits.f servers limits.k kept.requests place) s [] → Ran limits log old (snapshot left' held server table downs) s
-stops_here {limits = limits} {log = log} {old = old} {left' = left'} {downs = downs} {s = s} one g differs ends =
-    ran_here one g.here (subst (Ends old.left left' log s) (append-nil g.events) (Ends-then g.goes ends)) (λ e. absurd (differs e)) (printed_all s g.printed) (cut_whole limits downs g.events)
+module _ {X : Type 0} {state : X → Server} where
+  -- the run stops, and nothing was stepped
+  pub stops_here : {limits : Limits} {log : List ℕ → Log} {old : Setting X} {left left' held : Option (List ℕ)}
+      {servers : List X} {tables : List ConfTable} {downs : List FaultPoint} {kept : Kept} {n place : ℕ} {s : Status} →
+      Going state limits log old (setting left held servers tables downs) kept n place →
+      (s ≡ status.WriteFault → ⊥) →
+      Ends left left' (records_from n limits.f (length old.servers) limits.k kept.requests place) s [] →
+      Ran state limits log old (setting left' held servers tables downs) s
+  stops_here {log = log} {old = old} {left' = left'} {s = s} g differs ends =
+      ran_here g.here (subst (Ends old.left left' log s) (append-nil g.events) (Ends-then g.goes ends))
+      (λ e. absurd (differs e)) (printed_all s g.printed) (cut_whole g.here)
 
--- no more records are read
-pub stops_most : {limits : Limits} {servers : ℕ} {log : List ℕ → Log} {old : Snapshot} {left held : Option (List ℕ)} {server : Server} {table : ConfTable} {downs : List FaultPoint} {kept : Kept} {place : ℕ} →
-    limits.f ≡ 0 → Going limits servers log old (snapshot left held server table downs) kept 0 place → Ran limits log old (snapshot left held server table downs) (status.BadLog place)
-stops_most {limits = limits} {servers = servers} {left = left} {kept = kept} {place = place} one g = stops_here one g (λ e. let f : status.BadLog place ≡ status.WriteFault = e in cc) (over_most left limits.f servers limits.k kept.requests place)
+  -- no more records are read
+  pub stops_most : {limits : Limits} {log : List ℕ → Log} {old : Setting X} {left held : Option (List ℕ)}
+      {servers : List X} {tables : List ConfTable} {downs : List FaultPoint} {kept : Kept} {place : ℕ} →
+      Going state limits log old (setting left held servers tables downs) kept 0 place →
+      Ran state limits log old (setting left held servers tables downs) (status.BadLog place)
+  stops_most {limits = limits} {old = old} {left = left} {kept = kept} {place = place} g =
+      stops_here g (λ e. let f : status.BadLog place ≡ status.WriteFault = e in cc)
+      (over_most left limits.f (length old.servers) limits.k kept.requests place)
 
-module _ (l : Limits) (servers : ℕ) (left left' held : Option (List ℕ)) (server : Server) (table : ConfTable) (downs : List FaultPoint) (kept : Kept) (place : ℕ) (e : Event) (kept_l : l ≡ kept.limits) (r : Reads (record_at l.f servers) (λ (x : Event). x) left left' (Ok e)) where
-  abbrev Before : Limits → (List ℕ → Log) → Snapshot → ℕ → Type 0
-  Before limits log old n = Going limits servers log old (snapshot left held server table downs) kept n place
+  -- no record was read
+  pub turn_read : {l : Limits} {left left' held : Option (List ℕ)} {servers : List X} {tables : List ConfTable}
+      {downs : List FaultPoint} {kept : Kept} {place : ℕ} {e : ReadErr} → l ≡ kept.limits →
+      Reads (record_at l.f (length servers)) (λ (x : Event). x) left left' (Err e) →
+      Turns state (setting left held servers tables downs) (setting left' held servers tables downs) kept kept place
+      (turns.Over (read_status e place))
+  turn_read {left = left} {left' = left'} {servers = servers} {kept = kept} {place = place} {e = e} is r
+      limits log old n g =
+      stops_here g (read_no_write e place)
+      (over_read n limits.f (length old.servers) limits.k kept.requests place
+      (subst (λ (k : ℕ). Reads (record_at limits.f k) (λ (y : Event). y) left left' (Err e)) g.here.later.size
+      (subst (λ (x : Limits). Reads (record_at x.f (length servers)) (λ (y : Event). y) left left' (Err e))
+      (is ∙ g.here.limits_are) r)))
 
-  judged : (limits : Limits) (log : List ℕ → Log) (old : Snapshot) (n : ℕ) (v : verdict.the_data) → Before limits log old n → judge l.k kept.requests e ≡ v → judge limits.k kept.requests e ≡ v
-  judged limits log old n v g j = subst (λ (x : Limits). judge x.k kept.requests e ≡ v) (kept_l ∙ g.here.limits_are) j
+module _ {X : Type 0} (state : X → Server) (l : Limits) (left left' held : Option (List ℕ)) (servers : List X)
+    (tables : List ConfTable) (downs : List FaultPoint) (kept : Kept) (place : ℕ) (e : Event) (kept_l : l ≡ kept.limits)
+    (r : Reads (record_at l.f (length servers)) (λ (x : Event). x) left left' (Ok e)) where
+  abbrev Before : Limits → (List ℕ → Log) → Setting X → ℕ → Type 0
+  Before limits log old n = Going state limits log old (setting left held servers tables downs) kept n place
 
-  -- the record, as the limits of the run have it
-  taken_by : (limits : Limits) (log : List ℕ → Log) (old : Snapshot) (n : ℕ) → Before limits log old n → Reads (record_at limits.f servers) (λ (x : Event). x) left left' (Ok e)
-  taken_by limits log old n g = subst (λ (x : Limits). Reads (record_at x.f servers) (λ (y : Event). y) left left' (Ok e)) (kept_l ∙ g.here.limits_are) r
+  module _ (limits : Limits) (log : List ℕ → Log) (old : Setting X) (n : ℕ) where
+    judged : (v : verdict.the_data) → Before limits log old n → judge l.k kept.requests e ≡ v →
+        judge limits.k kept.requests e ≡ v
+    judged v g j = subst (λ (x : Limits). judge x.k kept.requests e ≡ v) (kept_l ∙ g.here.limits_are) j
 
-  pub turn_wrong : judge l.k kept.requests e ≡ verdict.Wrong → Turns servers (snapshot left held server table downs) (snapshot left' held server table downs) kept kept place (turns.Over (status.BadLog place))
-  turn_wrong j limits log old n one g = stops_here one g (λ e. let f : status.BadLog place ≡ status.WriteFault = e in cc) (over_wrong n limits.f servers limits.k kept.requests place (taken_by limits log old (suc n) g) (judged limits log old (suc n) verdict.Wrong g j))
+    -- the record, as the limits of the run have it
+    taken_by : Before limits log old n →
+        Reads (record_at limits.f (length old.servers)) (λ (x : Event). x) left left' (Ok e)
+    taken_by g =
+        subst (λ (k : ℕ). Reads (record_at limits.f k) (λ (y : Event). y) left left' (Ok e)) g.here.later.size
+        (subst (λ (x : Limits). Reads (record_at x.f (length servers)) (λ (y : Event). y) left left' (Ok e))
+        (kept_l ∙ g.here.limits_are) r)
 
-  pub turn_waits : judge l.k kept.requests e ≡ verdict.Waits → Turns servers (snapshot left held server table downs) (snapshot left' held server table downs) kept kept place (turns.Over (status.NotBuilt place))
-  turn_waits j limits log old n one g = stops_here one g (λ e. let f : status.NotBuilt place ≡ status.WriteFault = e in cc) (over_waits n limits.f servers limits.k kept.requests place (taken_by limits log old (suc n) g) (judged limits log old (suc n) verdict.Waits g j))
+  pub turn_wrong : judge l.k kept.requests e ≡ verdict.Wrong →
+      Turns state (setting left held servers tables downs) (setting left' held servers tables downs) kept kept place
+      (turns.Over (status.BadLog place))
+  turn_wrong j limits log old n g =
+      stops_here g (λ e. let f : status.BadLog place ≡ status.WriteFault = e in cc)
+      (over_wrong n limits.f (length old.servers) limits.k kept.requests place (taken_by limits log old (suc n) g)
+      (judged limits log old (suc n) verdict.Wrong g j))
 
-  module _ (held' : Option (List ℕ)) (server' : Server) (table' : ConfTable) (downs' : List FaultPoint) (kept' : Kept) where
+  pub turn_waits : judge l.k kept.requests e ≡ verdict.Waits →
+      Turns state (setting left held servers tables downs) (setting left' held servers tables downs) kept kept place
+      (turns.Over (status.NotBuilt place))
+  turn_waits j limits log old n g =
+      stops_here g (λ e. let f : status.NotBuilt place ≡ status.WriteFault = e in cc)
+      (over_waits n limits.f (length old.servers) limits.k kept.requests place (taken_by limits log old (suc n) g)
+      (judged limits log old (suc n) verdict.Waits g j))
+
+  module _ (held' : Option (List ℕ)) (servers' : List X) (tables' : List ConfTable) (downs' : List FaultPoint)
+      (kept' : Kept) (later : AreLater state (3 * kept.limits.f + 1) servers servers') where
+    since : (limits : Limits) (log : List ℕ → Log) (old : Setting X) (n : ℕ) → Before limits log old n →
+        AreLater state (3 * limits.f + 1) servers servers'
+    since limits log old n g =
+        subst (λ (x : Limits). AreLater state (3 * x.f + 1) servers servers') g.here.limits_are later
+
     -- a record was stepped, and its lines were written
-    pub turn_goes : (x : Unit) → judge l.k kept.requests e ≡ verdict.Goes → Written kept kept' server server' table table' downs downs' held held' e (Ok x)
-        → Turns servers (snapshot left held server table downs) (snapshot left' held' server' table' downs') kept kept' place (turns.Goes (place + record_len e))
-    turn_goes x j w limits log old n one g = record {
-      events = g.events ++ e ∷ [];
-      goes = subst (λ (q : List Request). Goes old.left left' log (records_from n limits.f servers limits.k q (place + record_len e)) (g.events ++ e ∷ [])) (sym w.steps.requests)
-          (Goes-then g.goes (one_goes n limits.f servers limits.k kept.requests place (taken_by limits log old (suc n) g) (judged limits log old (suc n) verdict.Goes g j)));
-      printed = appended_all old.held _ g.printed w.writes (text_more g.here w.steps);
-      here = here_more g.here w.steps;
-    }
+    pub turn_goes : (x : Unit) → judge l.k kept.requests e ≡ verdict.Goes →
+        Written state kept kept' servers servers' tables tables' downs downs' held held' e (Ok x) →
+        Turns state (setting left held servers tables downs) (setting left' held' servers' tables' downs') kept kept'
+        place (turns.Goes (place + record_len e))
+    turn_goes x j w limits log old n g =
+        let harmless = goes_harmless l.k kept.requests e j in
+        let more = since limits log old (suc n) g in
+        record {
+          events = g.events ++ e ∷ [];
+          goes = subst (λ (q : List Request). Goes old.left left' log
+              (records_from n limits.f (length old.servers) limits.k q (place + record_len e)) (g.events ++ e ∷ []))
+              (sym w.steps.requests)
+              (Goes-then g.goes (one_goes n limits.f (length old.servers) limits.k kept.requests place
+              (taken_by limits log old (suc n) g) (judged limits log old (suc n) verdict.Goes g j)));
+          here = here_more g.here w.steps harmless more;
+          printed = appended_all old.held _ g.printed w.writes (text_more g.here w.steps harmless more);
+        }
 
-    wrote_part : (limits : Limits) (log : List ℕ → Log) (old : Snapshot) (n : ℕ) (f : RunErr) (rest : List ℕ → Log) → (rest []).events ≡ [] → limits.f ≡ 0 → (g : Before limits log old (suc n))
-        → Goes left left' (records_from (suc n) limits.f servers limits.k kept.requests place) rest (e ∷ []) → Written kept kept' server server' table table' downs downs' held held' e (Err f)
-        → Ran limits log old (snapshot left' held' server' table' downs') (run_status f)
-    wrote_part limits log old n f rest none one g goes w =
+    wrote_part : (limits : Limits) (log : List ℕ → Log) (old : Setting X) (n : ℕ) (f : RunErr)
+        (rest : List ℕ → Log) → IsHarmless e → (rest []).events ≡ [] → (g : Before limits log old (suc n)) →
+        Goes left left' (records_from (suc n) limits.f (length old.servers) limits.k kept.requests place) rest
+        (e ∷ []) →
+        Written state kept kept' servers servers' tables tables' downs downs' held held' e (Err f) →
+        Ran state limits log old (setting left' held' servers' tables' downs') (run_status f)
+    wrote_part limits log old n f rest harmless none g goes w =
         let all = Goes-then g.goes goes in
-        ran_here one (here_more g.here w.steps) (ends_at_write f all) (λ e. unread_at_write all none)
-        (printed_part _ g.printed w.writes (text_more g.here w.steps)) (cut_here g.here w.steps w.writes.part)
+        let more = since limits log old (suc n) g in
+        ran_here (here_more g.here w.steps harmless more) (ends_at_write f all)
+        (λ e. unread_at_write all none)
+        (printed_part _ g.printed w.writes (text_more g.here w.steps harmless more))
+        (cut_here g.here w.steps harmless more w.writes.part)
 
-    wanted : (limits : Limits) (log : List ℕ → Log) (old : Snapshot) (n : ℕ) → server.faults ≤ server'.faults → server'.limits ≡ server.limits → downs' ≡ downs → held' ≡ held → limits.f ≡ 0
-        → Before limits log old n → Ran limits log old (snapshot left' held' server' table' downs') status.NoMemory
-    wanted limits log old n later same d h one g =
-        subst (λ (x : List FaultPoint). Ran limits log old (snapshot left' held' server' table' x) status.NoMemory) (sym d)
-        (subst (λ (x : Option (List ℕ)). Ran limits log old (snapshot left' x server' table' downs) status.NoMemory) (sym h)
-        (ran_short one g.here later same
-        (subst (Ends old.left left' log status.NoMemory) (append-nil g.events) (Ends-then g.goes (over_memory limits.f servers (records_from n limits.f servers limits.k kept.requests place) (taken_by limits log old n g))))
-        (printed_all status.NoMemory g.printed) (cut_whole limits downs g.events)))
+    wanted : (limits : Limits) (log : List ℕ → Log) (old : Setting X) (n : ℕ) → downs' ≡ downs → held' ≡ held →
+        Before limits log old n →
+        Ran state limits log old (setting left' held' servers' tables' downs') status.NoMemory
+    wanted limits log old n d h g =
+        subst (λ (x : List FaultPoint). Ran state limits log old (setting left' held' servers' tables' x)
+        status.NoMemory) (sym d)
+        (subst (λ (x : Option (List ℕ)). Ran state limits log old (setting left' x servers' tables' downs)
+        status.NoMemory) (sym h)
+        (ran_short g.here (since limits log old n g)
+        (subst (Ends old.left left' log status.NoMemory) (append-nil g.events) (Ends-then g.goes (over_memory limits.f
+        (length old.servers) (records_from n limits.f (length old.servers) limits.k kept.requests place)
+        (taken_by limits log old n g))))
+        (printed_all status.NoMemory g.printed) (cut_whole g.here)))
 
-    err_is : (f : RunErr) (x : Result Unit RunErr) → x ≡ Err f → x ≡ Err run.NoMemory → run_status f ≡ status.NoMemory
+    err_is : (f : RunErr) (x : Result Unit RunErr) → x ≡ Err f → x ≡ Err run.NoMemory →
+        run_status f ≡ status.NoMemory
     err_is f x h k = let same : f ≡ run.NoMemory = cc in ap run_status same
 
     -- a record was stepped, or memory wanted, and its lines were not all written
-    pub turn_failed : (f : RunErr) → server.faults ≤ server'.faults → server'.limits ≡ server.limits → (judge l.k kept.requests e ≡ verdict.Goes) ⊎ (judge l.k kept.requests e ≡ verdict.Ends)
-        → Stepped kept kept' server server' table table' downs downs' held held' e (Err f)
-        → Turns servers (snapshot left held server table downs) (snapshot left' held' server' table' downs') kept kept' place (turns.Over (run_status f))
-    turn_failed f later same (inl j) (inl w) limits log old n one g =
-        wrote_part limits log old n f (records_from n limits.f servers limits.k (kept.requests ++ asked_by e) (place + record_len e)) (nothing_more n limits.f servers limits.k (kept.requests ++ asked_by e) (place + record_len e)) one g
-        (one_goes n limits.f servers limits.k kept.requests place (taken_by limits log old (suc n) g) (judged limits log old (suc n) verdict.Goes g j)) w
-    turn_failed f later same (inr j) (inl w) limits log old n one g =
-        wrote_part limits log old n f (λ more. stops (behind_last (place + record_len e) more)) refl one g (last_goes n limits.f servers limits.k kept.requests place (taken_by limits log old (suc n) g) (judged limits log old (suc n) verdict.Ends g j)) w
-    turn_failed f later same j (inr w) limits log old n one g =
-        subst (Ran limits log old (snapshot left' held' server' table' downs')) (sym (err_is f _ refl w.is)) (wanted limits log old (suc n) later same w.downs_stay w.held_stay one g)
+    pub turn_failed : (f : RunErr) →
+        (judge l.k kept.requests e ≡ verdict.Goes) ⊎ (judge l.k kept.requests e ≡ verdict.Ends) →
+        Stepped state kept kept' servers servers' tables tables' downs downs' held held' e (Err f) →
+        Turns state (setting left held servers tables downs) (setting left' held' servers' tables' downs') kept kept'
+        place (turns.Over (run_status f))
+    turn_failed f (inl j) (inl w) limits log old n g =
+        wrote_part limits log old n f
+        (records_from n limits.f (length old.servers) limits.k (kept.requests ++ asked_by e) (place + record_len e))
+        (goes_harmless l.k kept.requests e j)
+        (nothing_more n limits.f (length old.servers) limits.k (kept.requests ++ asked_by e) (place + record_len e)) g
+        (one_goes n limits.f (length old.servers) limits.k kept.requests place (taken_by limits log old (suc n) g)
+        (judged limits log old (suc n) verdict.Goes g j)) w
+    turn_failed f (inr j) (inl w) limits log old n g =
+        wrote_part limits log old n f (λ more. stops (behind_last (place + record_len e) more))
+        (ends_harmless l.k kept.requests e j) refl g
+        (last_goes n limits.f (length old.servers) limits.k kept.requests place (taken_by limits log old (suc n) g)
+        (judged limits log old (suc n) verdict.Ends g j)) w
+    turn_failed f j (inr w) limits log old n g =
+        subst (Ran state limits log old (setting left' held' servers' tables' downs')) (sym (err_is f _ refl w.is))
+        (wanted limits log old (suc n) w.downs_stay w.held_stay g)
 
     -- the last record was stepped, its lines were written, and what stands behind it was looked at
-    pub turn_ends : (x : Unit) (left'' : Option (List ℕ)) (f : Status) → judge l.k kept.requests e ≡ verdict.Ends → Written kept kept' server server' table table' downs downs' held held' e (Ok x) → Finishes left' left'' (place + record_len e) f
-        → Turns servers (snapshot left held server table downs) (snapshot left'' held' server' table' downs') kept kept' place (turns.Over f)
-    turn_ends x left'' f j w finish limits log old n one g =
-        ran_here one (here_more g.here w.steps)
+    pub turn_ends : (x : Unit) (left'' : Option (List ℕ)) (f : Status) → judge l.k kept.requests e ≡ verdict.Ends →
+        Written state kept kept' servers servers' tables tables' downs downs' held held' e (Ok x) →
+        Finishes left' left'' (place + record_len e) f →
+        Turns state (setting left held servers tables downs) (setting left'' held' servers' tables' downs') kept kept'
+        place (turns.Over f)
+    turn_ends x left'' f j w finish limits log old n g =
+        let harmless = ends_harmless l.k kept.requests e j in
+        let more = since limits log old (suc n) g in
+        let here = here_more g.here w.steps harmless more in
+        ran_here here
         (subst (Ends old.left left'' log f) (append-nil (g.events ++ e ∷ []))
-        (Ends-then (Goes-then g.goes (last_goes n limits.f servers limits.k kept.requests place (taken_by limits log old (suc n) g) (judged limits log old (suc n) verdict.Ends g j))) (over_finish (place + record_len e) finish)))
-        (λ e. absurd (finish_no_write finish e)) (printed_all f (appended_all old.held _ g.printed w.writes (text_more g.here w.steps))) (cut_whole limits downs' (g.events ++ e ∷ []))
-
--- no record was read
-pub turn_read : {l : Limits} {servers : ℕ} {left left' held : Option (List ℕ)} {server : Server} {table : ConfTable} {downs : List FaultPoint} {kept : Kept} {place : ℕ} {e : ReadErr} → l ≡ kept.limits → Reads (record_at l.f servers) (λ (x : Event). x) left left' (Err e)
-    → Turns servers (snapshot left held server table downs) (snapshot left' held server table downs) kept kept place (turns.Over (read_status e place))
-turn_read {servers = servers} {left = left} {left' = left'} {kept = kept} {place = place} {e = e} is r limits log old n one g =
-    stops_here one g (read_no_write e place) (over_read n limits.f servers limits.k kept.requests place (subst (λ (x : Limits). Reads (record_at x.f servers) (λ (y : Event). y) left left' (Err e)) (is ∙ g.here.limits_are) r))
+        (Ends-then (Goes-then g.goes (last_goes n limits.f (length old.servers) limits.k kept.requests place
+        (taken_by limits log old (suc n) g) (judged limits log old (suc n) verdict.Ends g j)))
+        (over_finish (place + record_len e) finish)))
+        (λ e. absurd (finish_no_write finish e))
+        (printed_all f (appended_all old.held _ g.printed w.writes (text_more g.here w.steps harmless more)))
+        (cut_whole here)
 
 -- what was stepped was not wanted
-pub not_wanted : {kept kept' : Kept} {server server' : Server} {table table' : ConfTable} {downs downs' : List FaultPoint} {held held' : Option (List ℕ)} {e : Event} {x : Unit} → Stepped kept kept' server server' table table' downs downs' held held' e (Ok x) → Written kept kept' server server' table table' downs downs' held held' e (Ok x)
+pub not_wanted : {X : Type 0} {state : X → Server} {kept kept' : Kept} {servers servers' : List X}
+    {tables tables' : List ConfTable} {downs downs' : List FaultPoint} {held held' : Option (List ℕ)} {e : Event}
+    {x : Unit} → Stepped state kept kept' servers servers' tables tables' downs downs' held held' e (Ok x) →
+    Written state kept kept' servers servers' tables tables' downs downs' held held' e (Ok x)
 not_wanted (inl w) = w
 not_wanted {x = x} (inr w) = absurd (let h : Ok x ≡ Err run.NoMemory = w.is in cc)

@@ -1,5 +1,5 @@
--- A run that goes on: what was read, stepped and written so far.
-use Rattle.std.specs.Prelude.{◌≡◌, ℕ, suc, ◌≤◌, List, [], ◌++◌, length, Option}
+-- A run that goes on: what was read, stepped and written so far. Contracts inside the crate and their proofs use it.
+use Rattle.std.specs.Prelude.{◌≡◌, ℕ, suc, ◌+◌, ◌*◌, ◌≤◌, List, [], ◌++◌, length, Option, All}
 use Rattle.std.specs.Io.KnownBytes.{Consumes, Appends, IsAtEnd}
 use Rattle.nfs2_types.specs.declared.Limits.{Limits}
 use Rattle.server_trait.specs.Tree.{Server}
@@ -11,9 +11,13 @@ use Rattle.log_stream.specs.declared.ReadErr.{ReadErr}
 use Rattle.log_stream.specs.declared.ReadErr.TheVariants as read
 use Rattle.outside.specs.declared.SinkErr.{SinkErr}
 use Rattle.outside.specs.declared.SinkErr.TheVariants as sink
-use Rattle.cluster.specs.Served.{service}
-use Rattle.cluster.specs.Run.{end_of, requests_of, AreMet}
-use Rattle.cluster.specs.OverBench.{Kept, IsState, RoseBy}
+use Rattle.cluster_model.specs.Moments.{Moment}
+use Rattle.cluster_model.specs.Calm.{IsHarmless}
+use Rattle.cluster_model.specs.Run.{fresh, LooseRun, AreMet}
+use Rattle.service_laws.specs.Served.{service}
+use Rattle.cluster.specs.Positions.{AreLater}
+use Rattle.cluster.specs.OverBench.{Kept, IsState}
+use Rattle.cluster.specs.Steps.{ServersAreStruck}
 use Rattle.basefs.specs.declared.run_err.RunErr.{RunErr}
 use Rattle.basefs.specs.declared.run_err.RunErr.TheVariants as run
 use Rattle.basefs.specs.declared.status.Status.{Status}
@@ -21,7 +25,9 @@ use Rattle.basefs.specs.declared.status.Status.TheVariants as statuses
 use Rattle.basefs.specs.declared.turn.Turn.{Turn}
 use Rattle.basefs.specs.declared.turn.Turn.TheVariants as turns
 use Rattle.basefs.specs.Log.{Log, records_from}
-use Rattle.basefs.specs.Run.{Snapshot, ArePoints, Ran}
+use Rattle.basefs.specs.Setting.{Setting}
+use Rattle.basefs.specs.Servers.{ArePoints}
+use Rattle.basefs.specs.Run.{end_of, requests_of, Ran}
 
 -- these records, and then those of a log
 abbrev pub behind : List Event → Log → Log
@@ -33,38 +39,42 @@ pub record Goes (old left : Option (List ℕ)) (log rest : List ℕ → Log) (ev
   pub consumed : Consumes old left taken
   pub goes : (more : List ℕ) → log (taken ++ more) ≡ behind events (rest more)
 
--- Cluster, server and table stand for the last moment of the model's run of these records, in which the server failed
--- at the fault points.
-pub record Here (limits : Limits) (old now : Server) (table : ConfTable) (downs : List FaultPoint) (kept : Kept)
-    (events : List Event) : Type 0 where
-  pub state : IsState limits kept.requests kept.place now.tree table (end_of (service limits) downs events)
+-- Cluster and bench stand for the last moment of a model's run of these records, in which servers failed at the fault
+-- points. The servers were these before.
+pub record Here {X : Type 0} (state : X → Server) (limits : Limits) (before servers : List X) (tables : List ConfTable)
+    (downs : List FaultPoint) (kept : Kept) (events : List Event) : Type 0 where
+  pub ms : List Moment
+  pub is_run : LooseRun (service limits) (length before) downs events ms
+  pub harmless : All IsHarmless events
+  pub is_state : IsState state kept servers tables (end_of limits (length before) ms).state
   pub requests : kept.requests ≡ requests_of events
   pub counted : kept.events ≡ length events
   pub limits_are : kept.limits ≡ limits
   pub points : ArePoints limits (length events) downs
-  pub met : AreMet downs (end_of (service limits) downs events).lines
-  pub rose : RoseBy (length downs) old.faults now.faults
-  pub quiet : downs ≡ [] → now.faults ≡ old.faults
-  pub limits_stay : now.limits ≡ old.limits
+  pub met : AreMet downs (end_of limits (length before) ms).lines
+  pub struck : ServersAreStruck state (fresh (service limits) (length before)) ms before servers
+  pub later : AreLater state (3 * limits.f + 1) before servers
 
 -- Some records were stepped, and their lines were written. At most n records are to come, the first at this byte.
-pub record Going (limits : Limits) (servers : ℕ) (log : List ℕ → Log) (old now : Snapshot) (kept : Kept)
-    (n place : ℕ) : Type 0 where
+pub record Going {X : Type 0} (state : X → Server) (limits : Limits) (log : List ℕ → Log) (old now : Setting X)
+    (kept : Kept) (n place : ℕ) : Type 0 where
   pub events : List Event
-  pub goes : Goes old.left now.left log (records_from n limits.f servers limits.k kept.requests place) events
-  pub printed : Appends old.held now.held (text_of (end_of (service limits) now.downs events).lines)
-  pub here : Here limits old.server now.server now.table now.downs kept events
+  pub goes : Goes old.left now.left log
+      (records_from n limits.f (length old.servers) limits.k kept.requests place) events
+  pub here : Here state limits old.servers now.servers now.tables now.downs kept events
+  pub printed : Appends old.held now.held (text_of (end_of limits (length old.servers) here.ms).lines)
 
 -- what a turn came to
-abbrev pub TurnSays : Limits → ℕ → (List ℕ → Log) → Snapshot → Snapshot → Kept → ℕ → Turn → Type 0
-TurnSays limits servers log old now kept n (turns.Goes next) = Going limits servers log old now kept n next
-TurnSays limits servers log old now kept n (turns.Over ended) = Ran limits log old now ended
+abbrev pub TurnSays : {X : Type 0} → (X → Server) → Limits → (List ℕ → Log) → Setting X → Setting X → Kept → ℕ →
+    Turn → Type 0
+TurnSays state limits log old now kept n (turns.Goes next) = Going state limits log old now kept n next
+TurnSays state limits log old now kept n (turns.Over ended) = Ran state limits log old now ended
 
--- from any run so far, over so many servers, a turn leads to where this one says
-abbrev pub Turns : ℕ → Snapshot → Snapshot → Kept → Kept → ℕ → Turn → Type 0
-Turns servers before now kept kept' place result =
-    (limits : Limits) (log : List ℕ → Log) (old : Snapshot) (n : ℕ) → limits.f ≡ 0 →
-    Going limits servers log old before kept (suc n) place → TurnSays limits servers log old now kept' n result
+-- from any run so far a turn leads to where this one says
+abbrev pub Turns : {X : Type 0} → (X → Server) → Setting X → Setting X → Kept → Kept → ℕ → Turn → Type 0
+Turns {X} state before now kept kept' place result =
+    (limits : Limits) (log : List ℕ → Log) (old : Setting X) (n : ℕ) →
+    Going state limits log old before kept (suc n) place → TurnSays state limits log old now kept' n result
 
 -- the status of an error of the source, at an item that begins at this byte
 abbrev pub read_status : ReadErr → ℕ → Status

@@ -1,7 +1,10 @@
-pub mod Going
+pub mod Setting
+pub mod Servers
 pub mod Log
-pub mod Replayed
 pub mod Run
+pub mod Replayed
 pub mod StatusText
 pub mod Words
+pub mod Going
 pub mod Turns
+pub mod Beginning

@@ -10,8 +10,8 @@ use Rattle.log_format.specs.declared.Event.{Event}
 use Rattle.log_format.specs.declared.Event.TheVariants as records
 use Rattle.log_format.specs.declared.Header.{Header}
 use Rattle.log_format.specs.Records.{header_at, record_at}
-use Rattle.cluster.specs.declared.Request.{Request}
-use Rattle.cluster.specs.Run.{is_built, asked_by}
+use Rattle.cluster_model.specs.declared.Request.{Request}
+use Rattle.cluster.specs.Steps.{is_built, asked_by}
 use Rattle.basefs.specs.declared.verdict.Verdict.{Verdict}
 use Rattle.basefs.specs.declared.verdict.Verdict.TheVariants.{Wrong, Waits, Goes, Ends}
 
@@ -96,12 +96,10 @@ by_bench most h servers log =
     if nat_lt (length servers) (3 * h.f + 1) then stops (too_few (length servers) (3 * h.f + 1))
     else elim (position_from (λ s. is_small h (most s)) 0 servers) [ Some s ↦ stops (too_small s) | None ↦ log ]
 
--- the log that these bytes are, over these servers; of several replicas nothing is built yet
+-- the log that these bytes are, over these servers
 unfoldable pub log_of : {X : Type 0} → (X → ServerLimits) → List X → List ℕ → Log
 log_of most servers bytes =
     elim (header_at bytes) [
       | None ↦ stops (bad 0)
-      | Some h ↦ if h.0.f == 0
-          then by_bench most h.0 servers (records_from 16777216 h.0.f (length servers) h.0.k [] 24 h.1)
-          else stops (not_built 0)
+      | Some h ↦ by_bench most h.0 servers (records_from 16777216 h.0.f (length servers) h.0.k [] 24 h.1)
     ]

@@ -1,23 +1,25 @@
--- What a run of a log comes to: which records were stepped, and what was written.
-use Rattle.std.specs.Prelude.{◌≡◌, ◌≢◌, ℕ, ◌+◌, ◌*◌, ◌<◌, ◌≤◌, List, [], ◌++◌, length, Option, None, IfSome, All, ◌⊎◌}
-use Rattle.std.specs.List.Sorted.{IsNonDecreasingBy}
+-- What a run of a log comes to: which records were stepped, what was written, and what holds of replicas and servers.
+use Rattle.std.specs.Prelude.{◌≡◌, ◌≢◌, ℕ, ◌≤◌, List, [], ◌++◌, length, Option, None, IfSome, All, ◌⊎◌}
+use Rattle.std.specs.List.{flat_map}
 use Rattle.std.specs.Io.KnownBytes.{Consumes, Appends, IsAtEnd}
 use Rattle.nfs2_types.specs.declared.Limits.{Limits}
-use Rattle.server_trait.specs.Tree.{Tree, Server}
-use Rattle.server_trait.specs.declared.ConfTable.{ConfTable}
+use Rattle.server_trait.specs.Tree.{Server}
 use Rattle.server_trait.specs.declared.FaultPoint.{FaultPoint}
-use Rattle.conf_map.specs.Stands.{StandsValid}
 use Rattle.log_format.specs.declared.Event.{Event}
 use Rattle.log_format.specs.Lines.{text_of}
 use Rattle.log_format.specs.Records.{header_at}
-use Rattle.cluster.specs.State.{Condition, Live, Down}
-use Rattle.cluster.specs.Served.{service}
-use Rattle.cluster.specs.Run.{end_of, requests_of, AreMet}
-use Rattle.cluster.specs.Right.{IsRight}
-use Rattle.cluster.specs.OverBench.{RoseBy}
+use Rattle.cluster_model.specs.declared.Request.{Request}
+use Rattle.cluster_model.specs.Moments.{Moment}
+use Rattle.cluster_model.specs.Turns.{last}
+use Rattle.cluster_model.specs.Calm.{IsCalm, IsHarmless}
+use Rattle.cluster_model.specs.Run.{fresh, LooseRun, Always, HasEnough, IsOnce, replies, AreMet}
+use Rattle.service_laws.specs.Served.{service}
+use Rattle.cluster.specs.Steps.{asked_by, ServersAreStruck}
 use Rattle.basefs.specs.declared.status.Status.{Status}
 use Rattle.basefs.specs.declared.status.Status.TheVariants as status
 use Rattle.basefs.specs.Log.{Log, Stop, whole, bad, not_built, too_few, too_small}
+use Rattle.basefs.specs.Setting.{Setting}
+use Rattle.basefs.specs.Servers.{LiveStand, ArePoints, ServersAreWorn, SparesStay}
 
 -- WHICH RECORDS WERE STEPPED
 
@@ -68,65 +70,74 @@ pub record Printed (old new : Option (List ℕ)) (status : Status) (text : List 
 
 -- A WHOLE RUN
 
--- what a run changes: what the source has left and the sink holds, where they tell; the replica's server and table;
--- and the fault points
-pub record Snapshot : Type 0 where
-  pub left : Option (List ℕ)
-  pub held : Option (List ℕ)
-  pub server : Server
-  pub table : ConfTable
-  pub downs : List FaultPoint
+-- the last of these moments of a run over so many servers
+abbrev pub end_of : Limits → ℕ → List Moment → Moment
+end_of limits servers ms = last (fresh (service limits) servers) ms
 
--- server and table of a live replica stand for its array
-abbrev pub SeatStands : Limits → Option Tree → ConfTable → Condition → Type 0
-SeatStands limits tree table (Live l) = StandsValid limits tree table l.array
-SeatStands limits tree table Down = Unit {0}
+-- the requests of these records, in order
+abbrev pub requests_of : List Event → List Request
+requests_of events = flat_map asked_by events
 
--- Fault points in their order: each is of the start or of one of so many records, and of a replica.
-pub record ArePoints (limits : Limits) (number : ℕ) (downs : List FaultPoint) : Type 0 where
-  pub rising : IsNonDecreasingBy (λ (d : FaultPoint). d.event) downs
-  pub events : All (λ (d : FaultPoint). d.event ≤ number) downs
-  pub replicas : All (λ (d : FaultPoint). d.replica < 3 * limits.f + 1) downs
-
--- What was written holds the lines of all records before the last one; where no record was stepped, the lines of the
--- start may be cut.
-pub record IsCutAtLast (limits : Limits) (downs : List FaultPoint) (events : List Event) (part : List ℕ)
-    : Type 0 where
+-- What was written holds the lines of all records before the last one, and their moments come first. Where no record
+-- was stepped, the lines of the start may be cut.
+pub record IsCutAtLast (limits : Limits) (servers : ℕ) (downs : List FaultPoint) (events : List Event)
+    (ms : List Moment) (part : List ℕ) : Type 0 where
   pub before : List Event
-  pub last : List Event
-  pub parts : events ≡ before ++ last
-  pub one : length last ≤ 1
-  pub written : (events ≡ []) ⊎ IsPrefix (text_of (end_of (service limits) downs before).lines) part
+  pub final : List Event
+  pub parts : events ≡ before ++ final
+  pub one : length final ≤ 1
+  pub earlier : List Moment
+  pub later : List Moment
+  pub moments : ms ≡ earlier ++ later
+  pub is_run : LooseRun (service limits) servers downs before earlier
+  pub written : (events ≡ []) ⊎ IsPrefix (text_of (end_of limits servers earlier).lines) part
 
--- The replica was started, and the records of the log were stepped up to the one at which the status stops the run.
-pub record Ran (limits : Limits) (log : List ℕ → Log) (old new : Snapshot) (ended : Status) : Type 0 where
+-- the replies among the lines are the decisions, in order, and no place has two
+pub record IsTold (m : Moment) : Type 0 where
+  pub decisions : replies m.lines ≡ m.state.decisions
+  pub once : IsOnce (replies m.lines)
+
+-- Each decision is the service's word at its place, each live replica's array is that of its place, and each place that
+-- f + 1 live replicas have run is decided.
+abbrev pub IsServed : Limits → Moment → Type 0
+IsServed limits m = IsCalm (service limits) m.state × HasEnough (service limits) m
+
+-- The replicas were started, and the records of the log were stepped up to the one at which the status stops the run.
+pub record Ran {X : Type 0} (state : X → Server) (limits : Limits) (log : List ℕ → Log) (old new : Setting X)
+    (ended : Status) : Type 0 where
   pub events : List Event
   pub ends : Ends old.left new.left log ended events
-  -- what was written is the text of the lines of the model's run of these records, in which the server fails at the
-  -- fault points
-  pub printed : Printed old.held new.held ended (text_of (end_of (service limits) new.downs events).lines)
+  pub harmless : All IsHarmless events
+  -- the moments of the model's run of these records, in which servers fail at the fault points
+  pub ms : List Moment
+  pub is_run : LooseRun (service limits) (length old.servers) new.downs events ms
+  -- what was written is the text of its lines
+  pub printed : Printed old.held new.held ended (text_of (end_of limits (length old.servers) ms).lines)
   -- a write that fails stops the run: its record is the last that was stepped, and nothing is read behind it
-  pub cut : IsCutAtLast limits new.downs events printed.part
+  pub cut : IsCutAtLast limits (length old.servers) new.downs events ms printed.part
   pub unread : ended ≡ status.WriteFault → (log ends.taken).events ≡ events
-  -- each reply among the lines is the service's at its place, each place that the replica passed has one, and its
-  -- array is that of its place
-  pub right : IsRight (service limits) (end_of (service limits) new.downs events)
-  pub requests : (end_of (service limits) new.downs events).state.requests ≡ requests_of events
-  -- the server of a live replica holds exactly its array
-  pub stands : ended ≢ status.NoMemory → SeatStands limits new.server.tree new.table right.condition
-  -- each fault point has its line, in order, and the server's count rose for it
+  -- at every moment, whatever servers fail
+  pub calm : Always (IsServed limits) ms
+  pub told : IsTold (end_of limits (length old.servers) ms)
+  pub requests : (end_of limits (length old.servers) ms).state.requests ≡ requests_of events
+  -- the server of each live replica holds exactly its array
+  pub stands : ended ≢ status.NoMemory →
+      LiveStand state limits (end_of limits (length old.servers) ms).state new.servers new.tables
+  -- each fault point has its line, in order
   pub points : ArePoints limits (length events) new.downs
-  pub met : AreMet new.downs (end_of (service limits) new.downs events).lines
-  pub rose : RoseBy (length new.downs) old.server.faults new.server.faults
-  pub quiet : ended ≢ status.NoMemory → new.downs ≡ [] → new.server.faults ≡ old.server.faults
-  pub limits_stay : new.server.limits ≡ old.server.limits
+  pub met : AreMet new.downs (end_of limits (length old.servers) ms).lines
+  -- the count of each server rose for its fault points, and without one stayed
+  pub struck : ended ≢ status.NoMemory →
+      ServersAreStruck state (fresh (service limits) (length old.servers)) ms old.servers new.servers
+  pub worn : ServersAreWorn state (fresh (service limits) (length old.servers)) ms old.servers new.servers
+  pub size : length new.servers ≡ length old.servers
+  pub spares : SparesStay limits old.servers new.servers
 
 -- BEFORE THE START
 
--- the statuses that a log can have before its replica is started
+-- the statuses that a log can have before its replicas are started
 abbrev pub IsEarly : Status → List ℕ → Type 0
 IsEarly (status.BadLog at) taken = at ≡ 0
-IsEarly (status.NotBuilt at) taken = at ≡ 0
 IsEarly (status.TooFewServers have need) taken = Unit {0}
 IsEarly (status.ServerTooSmall server) taken = Unit {0}
 IsEarly status.ReadFault taken = header_at taken ≡ None

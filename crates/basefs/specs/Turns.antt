@@ -1,4 +1,4 @@
--- What a turn does.
+-- What a turn does. Contracts inside the crate and their proofs use it.
 use Rattle.std.specs.Prelude.{◌≡◌, ℕ, suc, ◌+◌, ◌≤◌, List, Option, Result, Err, ◌⊎◌}
 use Rattle.server_trait.specs.Tree.{Server}
 use Rattle.server_trait.specs.declared.ConfTable.{ConfTable}
@@ -7,37 +7,34 @@ use Rattle.log_format.specs.declared.Event.{Event}
 use Rattle.log_format.specs.declared.Line.{Line}
 use Rattle.log_format.specs.Lines.{text_of}
 use Rattle.log_stream.specs.Writing.{Writes}
-use Rattle.cluster.specs.OverBench.{Kept, Steps}
+use Rattle.cluster.specs.OverBench.{Kept}
+use Rattle.cluster.specs.Steps.{Steps}
 use Rattle.basefs.specs.declared.run_err.RunErr.{RunErr}
 use Rattle.basefs.specs.declared.run_err.RunErr.TheVariants.{NoMemory}
 use Rattle.basefs.specs.declared.turn.Turn.{Turn}
 use Rattle.basefs.specs.declared.turn.Turn.TheVariants.{Goes, Over}
-use Rattle.basefs.specs.Run.{Snapshot}
-
-abbrev pub snapshot : Option (List ℕ) → Option (List ℕ) → Server → ConfTable → List FaultPoint → Snapshot
-snapshot left held server table downs =
-    record { left = left; held = held; server = server; table = table; downs = downs }
 
 -- the cluster stepped, and its lines were written, or some of them
-pub record Written (old new : Kept) (server server' : Server) (table table' : ConfTable)
-    (downs downs' : List FaultPoint)
-    (held held' : Option (List ℕ)) (event : Event) (result : Result Unit RunErr) : Type 0 where
+pub record Written {X : Type 0} (state : X → Server) (kept kept' : Kept) (servers servers' : List X)
+    (tables tables' : List ConfTable) (downs downs' : List FaultPoint) (held held' : Option (List ℕ)) (event : Event)
+    (result : Result Unit RunErr) : Type 0 where
   pub lines : List Line
-  pub steps : Steps old new server server' table table' downs downs' event lines
+  pub steps : Steps state kept kept' servers servers' tables tables' downs downs' event lines
   pub writes : Writes held held' (text_of lines) result
 
 -- memory wanted before the cluster had stepped
-pub record Wanted (server server' : Server) (downs downs' : List FaultPoint) (held held' : Option (List ℕ))
-    (result : Result Unit RunErr) : Type 0 where
+pub record Wanted (downs downs' : List FaultPoint) (held held' : Option (List ℕ)) (result : Result Unit RunErr)
+    : Type 0 where
   pub is : result ≡ Err NoMemory
   pub downs_stay : downs' ≡ downs
   pub held_stay : held' ≡ held
 
-abbrev pub Stepped : Kept → Kept → Server → Server → ConfTable → ConfTable → List FaultPoint → List FaultPoint →
-    Option (List ℕ) → Option (List ℕ) → Event → Result Unit RunErr → Type 0
-Stepped old new server server' table table' downs downs' held held' event result =
-    Written old new server server' table table' downs downs' held held' event result ⊎
-    Wanted server server' downs downs' held held' result
+-- one or the other
+abbrev pub Stepped : {X : Type 0} → (X → Server) → Kept → Kept → List X → List X → List ConfTable → List ConfTable →
+    List FaultPoint → List FaultPoint → Option (List ℕ) → Option (List ℕ) → Event → Result Unit RunErr → Type 0
+Stepped state kept kept' servers servers' tables tables' downs downs' held held' event result =
+    Written state kept kept' servers servers' tables tables' downs downs' held held' event result ⊎
+    Wanted downs downs' held held' result
 
 -- the next record is not far, and the cluster has stepped once more
 abbrev pub IsNear : Kept → Kept → ℕ → Turn → Type 0

@@ -1,15 +1,13 @@
-//! The bench of a replay.
+//! What a bench must have for a log.
 
-ghost use Rattle.std.specs.Prelude.{◌≡◌, ◌<◌, ◌≤◌, ◌^◌, [], length, vec_len, OnOk, Some, None, Option};
+ghost use Rattle.std.specs.Prelude.{◌≡◌, ◌<◌, ◌^◌, length, Option};
 ghost use Rattle.std.specs.List.{position_from};
-ghost use Rattle.basefs.specs.Log.{is_small as is_small_for, Log};
+ghost use Rattle.basefs.specs.Log.{is_small as is_small_for};
 ghost use Rattle.basefs.specs.Replayed.{Refuses};
 
 use crate::status::Status;
 use log_format::Header;
-use nfs2_types::NoMemory;
-use server_trait::{Bench, ConfTable, FileServer, ServerLimits, Srv};
-use std::alloc::Global;
+use server_trait::{FileServer, ServerLimits, Srv};
 
 /// Whether a server can't hold every array within the limits of a header.
 fn is_small(header: &Header, most: ServerLimits) -> bool
@@ -48,18 +46,4 @@ pub fn refusal(header: &Header, servers: &[Srv]) -> Option<Status>
         Some(server) => Some(Status::ServerTooSmall { server }),
         None => None,
     }
-}
-
-/// Gives each server an empty table, and takes all fault points away.
-pub fn prepare(alloc: Global, bench: &mut Bench) -> Result<(), NoMemory>
-    ensures servers { bench.new.servers.items ≡ bench.old.servers.items }
-    ensures tables { OnOk result (vec_len bench.new.tables ≡ vec_len bench.old.servers) }
-    ensures downs { bench.new.downs.items ≡ [] }
-{
-    bench.downs = Vec::new(alloc);
-    bench.tables = Vec::new(alloc);
-    for _table in 0..bench.servers.len() {
-        bench.tables.push(ConfTable::empty(alloc))?;
-    }
-    Ok(())
 }

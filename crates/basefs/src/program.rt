@@ -4,7 +4,8 @@ ghost use Rattle.std.specs.Prelude.{◌≡◌, ◌<◌, ◌^◌, vec_len, IfSome
 ghost use Rattle.nfs2_types.specs.Counts.{Rose};
 ghost use Rattle.basefs.specs.Log.{log_of};
 ghost use Rattle.basefs.specs.Run.{status_of, IsFault};
-ghost use Rattle.basefs.specs.Replayed.{Replayed, setting};
+ghost use Rattle.basefs.specs.Setting.{setting};
+ghost use Rattle.basefs.specs.Replayed.{Replayed};
 ghost use Rattle.basefs.specs.Words.{IsReplay};
 
 use crate::replay::replay;
@@ -48,10 +49,11 @@ pub fn basefs<S: Source, O: Sink, N: Link, C: Clock>(
         let log = log_of (λ s. (⟦<Srv as FileServer>⟧.state s).limits) bench.old.servers.items bytes in
         (result ≡ status_of log.stop) ⊎ IsFault result) }
 
-    // Either nothing was started and written, and the bench is as it was; or the replica was started, the records of
-    // the log were stepped up to the one that stops the run, each reply among its lines is the service's at its
-    // place, and the server of the replica, if that is live, holds exactly the array of the service at the
-    // replica's place.
+    // Either nothing was started and written, and the bench is as it was; or the replicas were started over the first
+    // servers, and the records of the log were stepped up to the one that stops the run. Then, whatever servers fail,
+    // each reply among the lines is the service's at its place, and the only one there; each place that f + 1 live
+    // replicas have run has its reply; the server of each live replica holds exactly the array of the service at the
+    // replica's place; and each `down` line is that of a fault point, for which the count of its server rose.
     ensures run { IsReplay words.now → Replayed ⟦<Srv as FileServer>⟧.state
         (setting (S.left input.old) (O.written out.old)
         bench.old.servers.items bench.old.tables.items bench.old.downs.items)

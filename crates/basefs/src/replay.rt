@@ -2,9 +2,10 @@
 
 ghost use Rattle.std.specs.Prelude.{◌≡◌, ◌<◌, ◌≤◌, ◌^◌, vec_len};
 ghost use Rattle.nfs2_types.specs.Counts.{Rose};
-ghost use Rattle.basefs.specs.Replayed.{Replayed, setting};
+ghost use Rattle.basefs.specs.Setting.{setting};
+ghost use Rattle.basefs.specs.Replayed.{Replayed};
 
-use crate::bench::{prepare, refusal};
+use crate::bench::refusal;
 use crate::run::run_log;
 use crate::status::Status;
 use crate::turn::read_status;
@@ -13,14 +14,6 @@ use nfs2_types::Limits;
 use outside::{Sink, Source};
 use server_trait::{Bench, FileServer, Srv};
 use std::alloc::Global;
-
-/// A number of servers.
-fn narrow(count: usize) -> u32
-    requires { count < 2 ^ 32 }
-    ensures { result ≡ count }
-{
-    count as u32
-}
 
 /// Reads a log from the source, runs it over the servers of the bench, and writes its lines to the sink.
 pub fn replay<S: Source, O: Sink>(
@@ -42,30 +35,14 @@ pub fn replay<S: Source, O: Sink>(
         Ok(header) => header,
         Err(error) => return read_status(error, 0),
     };
-    if header.f != 0 {
-        return Status::NotBuilt { at: 0 };
-    }
     if let Some(status) = refusal(&header, &bench.servers) {
         return status;
     }
-    let servers = narrow(bench.servers.len());
-    let Ok(()) = prepare(alloc, bench) else {
-        return Status::NoMemory;
-    };
     let limits = Limits {
         n: header.n,
         k: header.k,
         t: header.t,
         f: header.f,
     };
-    run_log(
-        alloc,
-        &limits,
-        servers,
-        input,
-        out,
-        &mut bench.servers[0],
-        &mut bench.tables[0],
-        &mut bench.downs,
-    )
+    run_log(alloc, &limits, input, out, bench)
 }

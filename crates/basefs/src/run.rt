@@ -1,10 +1,11 @@
-//! A run over one replica, from behind the header of a log.
+//! A run over the replicas, from behind the header of a log.
 
-ghost use Rattle.std.specs.Prelude.{◌≡◌, ◌<◌, ◌≤◌, ℕ, []};
+ghost use Rattle.std.specs.Prelude.{◌≡◌, ◌<◌, ◌≤◌, ◌+◌, ◌*◌, ◌^◌, ℕ, List, Option, vec_len};
 ghost use Rattle.nfs2_types.specs.Counts.{Rose};
-ghost use Rattle.conf_map.specs.Stands.{AreWithin, HasRoom};
-ghost use Rattle.basefs.specs.Turns.{snapshot};
-ghost use Rattle.basefs.specs.Replayed.{Begun, RunsAll};
+ghost use Rattle.conf_map.specs.Stands.{AreWithin};
+ghost use Rattle.cluster.specs.OverBench.{HaveRoom};
+ghost use Rattle.basefs.specs.Setting.{setting};
+ghost use Rattle.basefs.specs.Beginning.{Begun, RunsAll};
 
 use crate::run_err::RunErr;
 use crate::status::Status;
@@ -13,7 +14,7 @@ use cluster::Cluster;
 use log_stream::write_lines;
 use nfs2_types::Limits;
 use outside::{Sink, SinkErr, Source};
-use server_trait::{ConfTable, FaultPoint, Srv};
+use server_trait::{Bench, FileServer, Srv};
 use std::alloc::Global;
 
 /// The most records of a log.
@@ -22,75 +23,62 @@ const MOST_RECORDS: u32 = 16_777_216;
 /// Where the first record begins.
 const FIRST_RECORD: u64 = 24;
 
-/// Starts the replica, and writes the lines of the start.
-fn begin<S: Source, O: Sink>(
+/// Starts the replicas, and writes the lines of the start.
+fn begin<O: Sink>(
     alloc: Global,
     limits: &Limits,
-    input: &mut S,
     out: &mut O,
-    server: &mut Srv,
-    table: &mut ConfTable,
-    downs: &mut Vec<FaultPoint>,
+    bench: &mut Bench,
 ) -> Result<Cluster, RunErr>
-    requires one { limits.now.f ≡ 0 }
     requires within { AreWithin limits.now }
-    requires room { HasRoom limits.now (state server.old).limits }
-    requires none { downs.old.items ≡ [] }
-    ensures begun { (servers : ℕ) → Begun limits.now servers
-        (snapshot (S.left input.old) (O.written out.old) (state server.old) table.old downs.old.items)
-        (snapshot (S.left input.new) (O.written out.new) (state server.new) table.new downs.new.items) result }
-    ensures input { input.new ≡ input.old }
+    requires replicas { limits.now.f ≤ 2 }
+    requires interval { 0 < limits.now.k }
+    requires enough { 3 * limits.now.f + 1 ≤ vec_len bench.old.servers }
+    requires room { HaveRoom ⟦<Srv as FileServer>⟧.state limits.now bench.old.servers.items }
+    ensures begun { (left : Option (List ℕ)) → Begun ⟦<Srv as FileServer>⟧.state limits.now
+        (setting left (O.written out.old) bench.old.servers.items bench.old.tables.items bench.old.downs.items)
+        (setting left (O.written out.new) bench.new.servers.items bench.new.tables.items bench.new.downs.items)
+        result }
     ensures writes { O.faults out.old ≤ O.faults out.new }
     ensures write { result ≡ Err (RunErr.Sink SinkErr.Failed) → Rose (O.faults out.old) (O.faults out.new) }
 {
-    let (cluster, lines) = Cluster::start(alloc, server, table, downs, limits)?;
+    let (cluster, lines) = Cluster::start(alloc, bench, limits)?;
     write_lines(alloc, out, &lines)?;
     Ok(cluster)
 }
 
-/// Runs the records of a log over a replica with this server, where there are so many servers. The replica's
-/// array is kept in server and table alone.
+/// Runs the records of a log over replicas with the first servers of the bench. The array of a replica is kept in its
+/// server and its table alone.
 pub fn run_log<S: Source, O: Sink>(
     alloc: Global,
     limits: &Limits,
-    servers: u32,
     input: &mut S,
     out: &mut O,
-    server: &mut Srv,
-    table: &mut ConfTable,
-    downs: &mut Vec<FaultPoint>,
+    bench: &mut Bench,
 ) -> Status
-    requires one { limits.now.f ≡ 0 }
+    requires few { vec_len bench.old.servers < 2 ^ 32 }
     requires within { AreWithin limits.now }
+    requires replicas { limits.now.f ≤ 2 }
     requires interval { 0 < limits.now.k }
-    requires room { HasRoom limits.now (state server.old).limits }
-    requires none { downs.old.items ≡ [] }
-    ensures ran { RunsAll limits.now servers
-        (snapshot (S.left input.old) (O.written out.old) (state server.old) table.old downs.old.items)
-        (snapshot (S.left input.new) (O.written out.new) (state server.new) table.new downs.new.items) result }
+    requires enough { 3 * limits.now.f + 1 ≤ vec_len bench.old.servers }
+    requires room { HaveRoom ⟦<Srv as FileServer>⟧.state limits.now bench.old.servers.items }
+    ensures ran { RunsAll ⟦<Srv as FileServer>⟧.state limits.now
+        (setting (S.left input.old) (O.written out.old)
+        bench.old.servers.items bench.old.tables.items bench.old.downs.items)
+        (setting (S.left input.new) (O.written out.new)
+        bench.new.servers.items bench.new.tables.items bench.new.downs.items) result }
     ensures reads { S.faults input.old ≤ S.faults input.new }
     ensures writes { O.faults out.old ≤ O.faults out.new }
     ensures read { result ≡ Status.ReadFault → Rose (S.faults input.old) (S.faults input.new) }
     ensures write { result ≡ Status.WriteFault → Rose (O.faults out.old) (O.faults out.new) }
 {
-    let mut cluster = match begin(alloc, limits, input, out, server, table, downs) {
+    let mut cluster = match begin(alloc, limits, out, bench) {
         Ok(cluster) => cluster,
         Err(error) => return run_status(error),
     };
     let mut place = FIRST_RECORD;
     for _turn in 0..MOST_RECORDS {
-        match take_turn(
-            alloc,
-            limits,
-            servers,
-            &mut cluster,
-            place,
-            input,
-            out,
-            server,
-            table,
-            downs,
-        ) {
+        match take_turn(alloc, limits, &mut cluster, place, input, out, bench) {
             Turn::Goes { next } => place = next,
             Turn::Over(status) => return status,
         }

@@ -3,6 +3,7 @@
 mod calls;
 mod mount;
 mod names;
+mod replicas;
 mod session;
 mod space;
 mod stops;
@@ -25,9 +26,9 @@ fn bytes_of(alloc: Global, words: &[u32]) -> Result<Vec<u8>, AllocError> {
     Ok(bytes)
 }
 
-/// A header with this checkpoint interval.
-fn header(k: u32) -> [u32; 6] {
-    [0x42415345, 0x4c4f4731, 0, 16, k, 65536]
+/// A header for this many failing replicas, with this checkpoint interval.
+fn header(f: u32, k: u32) -> [u32; 6] {
+    [0x42415345, 0x4c4f4731, f, 16, k, 65536]
 }
 
 /// A request at this second that calls the procedure 0.
@@ -51,6 +52,8 @@ fn look_up(xid: u32) -> [u32; 25] {
     ]
 }
 
+const RUN: u32 = 2;
+
 const RUN_ALL: u32 = 3;
 
 const END: u32 = 14;
@@ -66,7 +69,7 @@ fn log_of(alloc: Global, parts: &[&[u32]]) -> Result<Vec<u8>, AllocError> {
 
 /// The log of one call of the procedure 0.
 fn null_log(alloc: Global) -> Result<Vec<u8>, AllocError> {
-    log_of(alloc, &[&header(4), &null_request(1), &[RUN_ALL, END]])
+    log_of(alloc, &[&header(0, 4), &null_request(1), &[RUN_ALL, END]])
 }
 
 /// The numbers of the calls that fail: this one, or none where it is 0.
@@ -113,17 +116,6 @@ fn run_bench(
     Ok((status, out.written().to_vec(alloc)?))
 }
 
-/// The same over a bench of one server.
-fn run_over(
-    alloc: Global,
-    log: Vec<u8>,
-    streams: Streams,
-    server: Srv,
-) -> Result<(Status, Vec<u8>), Fail> {
-    let mut bench = Bench::new(alloc, vec![in alloc; server]?);
-    run_bench(alloc, log, streams, &mut bench)
-}
-
 /// The same over a server of this many nodes and bytes.
 fn run_in(
     alloc: Global,
@@ -137,7 +129,8 @@ fn run_in(
         return Err("no memory".into());
     };
     let server: Srv = Box::new(alloc, server)?;
-    run_over(alloc, log, streams, server)
+    let mut bench = Bench::new(alloc, vec![in alloc; server]?);
+    run_bench(alloc, log, streams, &mut bench)
 }
 
 /// The same over a server that is large enough.
@@ -170,7 +163,7 @@ fn a_directory_is_made_and_found_and_the_fourth_request_waits(rt: HostRuntime) -
     let log = log_of(
         rt.alloc(),
         &[
-            &header(4),
+            &header(0, 4),
             &make_dir(1),
             &[RUN_ALL],
             &look_up(2),
@@ -217,13 +210,6 @@ fn words_that_are_no_command(rt: HostRuntime) -> Result<(), Fail> {
 }
 
 #[test]
-fn a_bench_without_servers(rt: HostRuntime) -> Result<(), Fail> {
-    let none = Status::TooFewServers { have: 0, need: 1 };
-    assert_eq!(rt; run_words(rt.alloc(), &["replay"])?, (none, 0));
-    Ok(())
-}
-
-#[test]
 fn each_read_that_fails(rt: HostRuntime) -> Result<(), Fail> {
     for failing_read in 1u64..=93 {
         let streams = Streams {
@@ -250,7 +236,7 @@ fn the_third_write_fails(rt: HostRuntime) -> Result<(), Fail> {
     let log = log_of(
         rt.alloc(),
         &[
-            &header(4),
+            &header(0, 4),
             &null_request(1),
             &null_request(1),
             &null_request(1),
@@ -292,37 +278,22 @@ fn servers_that_are_too_small(rt: HostRuntime) -> Result<(), Fail> {
     Ok(())
 }
 
-/// A bench of one server that fails at the call of this kind with this number, counted from 1, and at each behind it.
-fn flaky_bench(alloc: Global, call: SrvCall, number: u64) -> Result<Bench, Fail>
-    ensures { IfOk result (λ bench. vec_len bench.servers ≡ 1) }
-{
+/// A server that fails at these calls.
+fn flaky(alloc: Global, fails: Vec<FailAt>) -> Result<Srv, Fail> {
     let Ok(server) = PathServer::new(alloc, LIMITS) else {
         return Err("no memory".into());
     };
-    let fails = vec![in alloc;
-        FailAt {
-            call,
-            from: number,
-            to: u64::MAX
-        },
-    ]?;
     let server: Srv = Box::new(alloc, Flaky::new(server, fails))?;
-    Ok(Bench::new(alloc, vec![in alloc; server]?))
+    Ok(server)
 }
 
-#[test]
-fn a_server_that_fails_at_the_start(rt: HostRuntime) -> Result<(), Fail> {
-    let mut bench = flaky_bench(rt.alloc(), SrvCall::Wipe, 1)?;
-    let (status, text) = run_bench(rt.alloc(), null_log(rt.alloc())?, WHOLE, &mut bench)?;
-    assert_eq!(rt; status, Status::Done);
-    assert_eq!(rt; text.as_slice(), b"down 0\nat 0 down\n".as_slice());
-    let start = FaultPoint {
-        event: 0,
-        stage: 0,
-        replica: 0,
-    };
-    assert_eq!(rt; bench.downs.as_slice(), [start].as_slice());
-    Ok(())
+/// The call of this kind with this number, counted from 1, and each behind it.
+fn from_call(call: SrvCall, number: u64) -> FailAt {
+    FailAt {
+        call,
+        from: number,
+        to: u64::MAX,
+    }
 }
 
 const TWO_REPLIES: &str = "\
@@ -338,7 +309,7 @@ fn a_server_that_fails_in_mid_stream(rt: HostRuntime) -> Result<(), Fail> {
     let log = log_of(
         rt.alloc(),
         &[
-            &header(16),
+            &header(0, 16),
             &null_request(1),
             &null_request(2),
             &make_dir(3),
@@ -348,7 +319,9 @@ fn a_server_that_fails_in_mid_stream(rt: HostRuntime) -> Result<(), Fail> {
             &[RUN_ALL, END],
         ],
     )?;
-    let mut bench = flaky_bench(rt.alloc(), SrvCall::Mkdir, 3)?;
+    let fails = vec![in rt.alloc(); from_call(SrvCall::Mkdir, 3)]?;
+    let server = flaky(rt.alloc(), fails)?;
+    let mut bench = Bench::new(rt.alloc(), vec![in rt.alloc(); server]?);
     let (status, text) = run_bench(rt.alloc(), log, WHOLE, &mut bench)?;
     assert_eq!(rt; status, Status::Done);
     assert_eq!(rt; text.as_slice(), TWO_REPLIES.as_bytes());

@@ -1,18 +1,20 @@
 //! One record of a log: read, judged, stepped, and its lines written.
 
-ghost use Rattle.std.specs.Prelude.{◌≡◌, ◌+◌, ◌<◌, ◌≤◌, ◌^◌, length, IfOk};
+ghost use Rattle.std.specs.Prelude.{◌≡◌, ◌+◌, ◌*◌, ◌<◌, ◌≤◌, ◌^◌, length, vec_len, IfOk};
 ghost use Rattle.nfs2_types.specs.Times.{is_time};
 ghost use Rattle.nfs2_types.specs.Counts.{Rose};
-ghost use Rattle.conf_map.specs.Stands.{HasRoom};
 ghost use Rattle.log_format.specs.Lines.{text_of};
 ghost use Rattle.log_format.specs.Records.{record_at};
 ghost use Rattle.log_format.specs.Spelling.{record_len};
 ghost use Rattle.log_stream.specs.Reading.{Reads, ReadHasCause};
-ghost use Rattle.log_stream.specs.Writing.{Writes};
-ghost use Rattle.cluster.specs.OverBench.{HasArray, CanStep};
-ghost use Rattle.basefs.specs.Turns.{Stepped, IsNear, snapshot};
+ghost use Rattle.cluster.specs.Kept.{kept};
+ghost use Rattle.cluster.specs.Positions.{AreLater};
+ghost use Rattle.cluster.specs.OverBench.{HaveArrays, HaveRoom};
+ghost use Rattle.cluster.specs.Steps.{CanStep};
+ghost use Rattle.basefs.specs.Setting.{setting};
 ghost use Rattle.basefs.specs.Log.{falls as falls_behind, judge_request as judge_request_of, judge as judge_of};
 ghost use Rattle.basefs.specs.Going.{read_status as status_of_read, run_status as status_of_run, Finishes, Turns};
+ghost use Rattle.basefs.specs.Turns.{Stepped, IsNear};
 
 use crate::run_err::RunErr;
 use crate::status::Status;
@@ -22,7 +24,7 @@ use log_format::Event;
 use log_stream::{ReadErr, read_record, write_lines};
 use nfs2_types::{Limits, Time};
 use outside::{Sink, SinkErr, Source};
-use server_trait::{ConfTable, FaultPoint, Srv};
+use server_trait::{Bench, FileServer, Srv};
 use std::alloc::Global;
 
 /// The most requests of a log.
@@ -66,13 +68,13 @@ fn judge_request(k: u32, asked: usize, last: Option<Time>, time: Time) -> Verdic
 
 /// What comes of a record behind the requests so far, with a checkpoint each `k` requests.
 fn judge(k: u32, cluster: &Cluster, event: &Event) -> Verdict
-    requires interval { 0 < k }
-    ensures { result ≡ judge_of k cluster.now.requests event.now }
+    requires interval { k ≡ (kept cluster.now).limits.k }
+    ensures verdict { result ≡ judge_of k (kept cluster.now).requests event.now }
+    ensures few { length (kept cluster.now).requests < k }
 {
+    let asked = cluster.asked();
     match event {
-        Event::Request { time, .. } => {
-            judge_request(k, cluster.asked(), cluster.last_time(), *time)
-        }
+        Event::Request { time, .. } => judge_request(k, asked, cluster.last_time(), *time),
         Event::End => Verdict::Ends,
         _ if is_built(event) => Verdict::Goes,
         _ => Verdict::Waits,
@@ -139,61 +141,70 @@ fn read_next<S: Source>(
     }
 }
 
+/// A number of servers.
+fn narrow(count: usize) -> u32
+    requires { count < 2 ^ 32 }
+    ensures { result ≡ count }
+{
+    count as u32
+}
+
 /// Steps a record, and writes its lines.
 fn step_and_write<O: Sink>(
     alloc: Global,
     cluster: &mut Cluster,
     event: Event,
     out: &mut O,
-    server: &mut Srv,
-    table: &mut ConfTable,
-    downs: &mut Vec<FaultPoint>,
+    bench: &mut Bench,
 ) -> Result<(), RunErr>
-    requires array { HasArray cluster.old.limits (state server.old).tree table.old cluster.old.place }
-    requires room { HasRoom cluster.old.limits (state server.old).limits }
-    requires event { CanStep cluster.old.requests event }
-    requires few { cluster.old.events < 2 ^ 32 }
-    ensures stepped { Stepped cluster.old cluster.new (state server.old) (state server.new) table.old table.new
-        downs.old.items downs.new.items (O.written out.old) (O.written out.new) event result }
+    requires arrays { HaveArrays ⟦<Srv as FileServer>⟧.state (kept cluster.old)
+        bench.old.servers.items bench.old.tables.items }
+    requires room { HaveRoom ⟦<Srv as FileServer>⟧.state (kept cluster.old).limits bench.old.servers.items }
+    requires event { CanStep (kept cluster.old).limits (kept cluster.old).requests event }
+    requires few { (kept cluster.old).events < 2 ^ 32 }
+    ensures stepped { Stepped ⟦<Srv as FileServer>⟧.state (kept cluster.old) (kept cluster.new)
+        bench.old.servers.items bench.new.servers.items bench.old.tables.items bench.new.tables.items
+        bench.old.downs.items bench.new.downs.items (O.written out.old) (O.written out.new) event result }
     ensures writes { O.faults out.old ≤ O.faults out.new }
     ensures write { result ≡ Err (RunErr.Sink SinkErr.Failed) → Rose (O.faults out.old) (O.faults out.new) }
-    ensures limits { (state server.new).limits ≡ (state server.old).limits }
-    ensures later { (state server.old).faults ≤ (state server.new).faults }
+    ensures servers { AreLater ⟦<Srv as FileServer>⟧.state (3 * (kept cluster.old).limits.f + 1)
+        bench.old.servers.items bench.new.servers.items }
 {
-    let lines = cluster.step(alloc, server, table, downs, event)?;
+    let lines = cluster.step(alloc, bench, event)?;
     write_lines(alloc, out, &lines)?;
     Ok(())
 }
 
-/// Takes a turn: reads the record that begins at this byte, over so many servers, steps it and writes its lines.
+/// Takes a turn: reads the record that begins at this byte, steps it and writes its lines.
 pub fn take_turn<S: Source, O: Sink>(
     alloc: Global,
     limits: &Limits,
-    servers: u32,
     cluster: &mut Cluster,
     place: u64,
     input: &mut S,
     out: &mut O,
-    server: &mut Srv,
-    table: &mut ConfTable,
-    downs: &mut Vec<FaultPoint>,
+    bench: &mut Bench,
 ) -> Turn
-    requires interval { 0 < limits.now.k }
-    requires limits { (limits.now ≡ cluster.old.limits) × (limits.now.f ≤ 2) }
+    requires servers { vec_len bench.old.servers < 2 ^ 32 }
+    requires limits { (limits.now ≡ (kept cluster.old).limits) × (limits.now.f ≤ 2) }
     requires place { place < 2 ^ 63 }
-    requires array { HasArray cluster.old.limits (state server.old).tree table.old cluster.old.place }
-    requires room { HasRoom cluster.old.limits (state server.old).limits }
-    requires few { cluster.old.events < 2 ^ 32 }
-    ensures turn { Turns servers
-        (snapshot (S.left input.old) (O.written out.old) (state server.old) table.old downs.old.items)
-        (snapshot (S.left input.new) (O.written out.new) (state server.new) table.new downs.new.items)
-        cluster.old cluster.new place result }
-    ensures near { IsNear cluster.old cluster.new place result }
+    requires arrays { HaveArrays ⟦<Srv as FileServer>⟧.state (kept cluster.old)
+        bench.old.servers.items bench.old.tables.items }
+    requires room { HaveRoom ⟦<Srv as FileServer>⟧.state limits.now bench.old.servers.items }
+    requires few { (kept cluster.old).events < 2 ^ 32 }
+    ensures turn { Turns ⟦<Srv as FileServer>⟧.state
+        (setting (S.left input.old) (O.written out.old)
+        bench.old.servers.items bench.old.tables.items bench.old.downs.items)
+        (setting (S.left input.new) (O.written out.new)
+        bench.new.servers.items bench.new.tables.items bench.new.downs.items)
+        (kept cluster.old) (kept cluster.new) place result }
+    ensures near { IsNear (kept cluster.old) (kept cluster.new) place result }
     ensures reads { S.faults input.old ≤ S.faults input.new }
     ensures writes { O.faults out.old ≤ O.faults out.new }
     ensures read { result ≡ Turn.Over Status.ReadFault → Rose (S.faults input.old) (S.faults input.new) }
     ensures write { result ≡ Turn.Over Status.WriteFault → Rose (O.faults out.old) (O.faults out.new) }
 {
+    let servers = narrow(bench.servers.len());
     let mut next = place;
     let event = match read_next(alloc, limits.f, servers, &mut next, input) {
         Ok(event) => event,
@@ -202,11 +213,11 @@ pub fn take_turn<S: Source, O: Sink>(
     match judge(limits.k, cluster, &event) {
         Verdict::Wrong => Turn::Over(Status::BadLog { at: place }),
         Verdict::Waits => Turn::Over(Status::NotBuilt { at: place }),
-        Verdict::Goes => match step_and_write(alloc, cluster, event, out, server, table, downs) {
+        Verdict::Goes => match step_and_write(alloc, cluster, event, out, bench) {
             Ok(()) => Turn::Goes { next },
             Err(error) => Turn::Over(run_status(error)),
         },
-        Verdict::Ends => match step_and_write(alloc, cluster, event, out, server, table, downs) {
+        Verdict::Ends => match step_and_write(alloc, cluster, event, out, bench) {
             Ok(()) => Turn::Over(finish(input, next)),
             Err(error) => Turn::Over(run_status(error)),
         },

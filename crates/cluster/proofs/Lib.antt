@@ -1,10 +1,14 @@
-pub mod AloneSteps
-pub mod Calm
-mod Examples
-pub mod Growing
-pub mod Places
-pub mod Replicas
-pub mod RunsAll
-pub mod Starting
-pub mod Stepping
+pub mod ListFacts
+pub mod Positions
+pub mod States
 pub mod Turns
+pub mod Struck
+pub mod TurnClauses
+pub mod Goings
+pub mod CastFacts
+pub mod Faults
+pub mod StruckMoments
+pub mod StepClauses
+pub mod Ends
+pub mod Beginning
+pub mod BeginClauses

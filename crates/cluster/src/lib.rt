@@ -1,12 +1,9 @@
-//! The replicas of a service, stepped by the records of a log.
+//! The replicas of a service and their votes, stepped by the records of a log over a bench of servers.
 #![tactic(auto)]
 
-mod catch_up;
 mod cluster;
-mod laws;
-mod replica;
-mod request;
+mod lists;
+mod seat;
 
 pub use cluster::{Cluster, is_built};
-pub use laws::runs_are_right;
-pub use request::Request;
+pub use cluster_model::Request;

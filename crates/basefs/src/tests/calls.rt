@@ -23,7 +23,14 @@ const SET_ATTR: [u32; 31] = [
 
 /// What two requests print, each run at once.
 pub fn printed(alloc: Global, first: &[u32], second: &[u32]) -> Result<Vec<u8>, Fail> {
-    let parts: [&[u32]; 6] = [&header(1024), first, &[RUN_ALL], second, &[RUN_ALL], &[END]];
+    let parts: [&[u32]; 6] = [
+        &header(0, 1024),
+        first,
+        &[RUN_ALL],
+        second,
+        &[RUN_ALL],
+        &[END],
+    ];
     let (status, text) = run_in(alloc, log_of(alloc, &parts)?, WHOLE, LIMITS)?;
     if status != Status::Done {
         return Err("not done".into());

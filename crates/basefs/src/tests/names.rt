@@ -38,7 +38,7 @@ const B_ROW: [u32; 5] = [1, 2, 1, 0x62000000, 4];
 #[test]
 fn a_list_is_cut_where_its_bytes_end(rt: HostRuntime) -> Result<(), Fail> {
     let alloc = rt.alloc();
-    let mut s = Session::new(alloc, 65536)?;
+    let mut s = Session::new(alloc, 65536);
     s.nfs(
         alloc,
         14,
@@ -69,7 +69,7 @@ fn a_list_is_cut_where_its_bytes_end(rt: HostRuntime) -> Result<(), Fail> {
 #[test]
 fn a_gap_before_a_write_is_zeros(rt: HostRuntime) -> Result<(), Fail> {
     let alloc = rt.alloc();
-    let mut s = Session::new(alloc, 65536)?;
+    let mut s = Session::new(alloc, 65536);
     let new = file(2, 1, 0, 0, [1, 1, 1]);
     let written = file(2, 1, 8292, 17, [1, 2, 2]);
     s.nfs(alloc, 9, &[&ROOT, &A, &KEEP], &[&OK, &handle(1, 1), &new])?;
@@ -91,7 +91,7 @@ fn a_gap_before_a_write_is_zeros(rt: HostRuntime) -> Result<(), Fail> {
 #[test]
 fn an_index_comes_back_with_another_generation(rt: HostRuntime) -> Result<(), Fail> {
     let alloc = rt.alloc();
-    let mut s = Session::new(alloc, 65536)?;
+    let mut s = Session::new(alloc, 65536);
     let first = file(2, 1, 0, 0, [1, 1, 1]);
     let second = file(2, 1, 0, 0, [3, 3, 3]);
     s.nfs(alloc, 9, &[&ROOT, &A, &KEEP], &[&OK, &handle(1, 1), &first])?;
@@ -109,7 +109,7 @@ fn an_index_comes_back_with_another_generation(rt: HostRuntime) -> Result<(), Fa
 #[test]
 fn names_move_or_are_refused(rt: HostRuntime) -> Result<(), Fail> {
     let alloc = rt.alloc();
-    let mut s = Session::new(alloc, 65536)?;
+    let mut s = Session::new(alloc, 65536);
     let d = handle(1, 1);
     let made = directory(2, 1);
     let e = file(3, 1, 0, 0, [2, 2, 2]);
@@ -144,7 +144,7 @@ const USR: [u32; 2] = [4, 0x2f757372];
 #[test]
 fn the_root_is_mounted(rt: HostRuntime) -> Result<(), Fail> {
     let alloc = rt.alloc();
-    let mut s = Session::new(alloc, 65536)?;
+    let mut s = Session::new(alloc, 65536);
     s.mount(alloc, 0, &[], &[])?;
     s.mount(alloc, 1, &[&EXPORT], &[&OK, &ROOT])?;
     s.mount(alloc, 1, &[&SLASH], &[&OK, &ROOT])?;

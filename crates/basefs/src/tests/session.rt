@@ -1,7 +1,11 @@
 //! Logs that grow call by call, beside the lines that they print.
 
-use super::{END, LIMITS, RUN_ALL, WHOLE, bytes_of, log_of, run_in};
+ghost use Rattle.std.specs.Prelude.{◌≡◌, vec_len, IfOk};
+
+use super::{END, RUN_ALL, WHOLE, bytes_of, flaky, from_call, log_of, run_bench};
 use crate::status::Status;
+use flaky_server::SrvCall;
+use server_trait::{Bench, FaultPoint, Srv};
 use std::alloc::{AllocError, Global};
 use std::test::Fail;
 
@@ -35,22 +39,139 @@ pub fn directory(fileid: u32, time: u32) -> [u32; 17] {
     ]
 }
 
-/// A log, the lines that it should print, and how many calls it has.
+/// Where the server of a replica fails: at its first call of a kind, which it makes in the record with this number, the
+/// start being 0.
+#[derive(Clone, Copy, Debug, PartialEq, Eq)]
+pub struct Fault {
+    pub call: SrvCall,
+    pub event: u64,
+}
+
+/// Calls, each of which is run at once, and the line of each reply.
 #[derive(Drop)]
 pub struct Session {
-    log: Vec<u8>,
+    bytes: u32,
+    records: Vec<u8>,
+    replies: Vec<String>,
+}
+
+/// What a run prints, and where servers fail in it.
+#[derive(Drop)]
+struct Course {
     lines: Vec<u8>,
-    calls: u32,
+    points: Vec<FaultPoint>,
+}
+
+/// Whether a server fails in this record.
+fn fails_at(fault: Option<Fault>, event: u64) -> bool {
+    match fault {
+        Some(fault) => fault.event == event,
+        None => false,
+    }
+}
+
+/// Whether a server has failed before this record.
+fn is_down(fault: Option<Fault>, event: u64) -> bool {
+    match fault {
+        Some(fault) => fault.event < event,
+        None => false,
+    }
+}
+
+impl Course {
+    /// The server of a replica fails in the first stage of a record, or in the start.
+    fn fails(&mut self, alloc: Global, event: u64, replica: u32) -> Result<(), Fail> {
+        let stage = u64::from(event != 0);
+        self.points.push(FaultPoint {
+            event,
+            stage,
+            replica,
+        })?;
+        let line = format!(in alloc; "down {replica}\n")?;
+        self.lines.extend_from_slice(line.as_bytes())?;
+        Ok(())
+    }
+
+    /// The replicas start.
+    fn starts(&mut self, alloc: Global, faults: &[Option<Fault>]) -> Result<(), Fail> {
+        let mut r = 0u32;
+        for fault in faults {
+            if fails_at(*fault, 0) {
+                self.fails(alloc, 0, r)?;
+            }
+            r = r.saturating_add(1);
+        }
+        Ok(())
+    }
+
+    /// Each replica runs a request, and f + 1 of them decide the reply.
+    fn runs(
+        &mut self,
+        alloc: Global,
+        f: u32,
+        event: u64,
+        reply: &str,
+        faults: &[Option<Fault>],
+    ) -> Result<(), Fail> {
+        let mut r = 0u32;
+        let mut words = 0u32;
+        for fault in faults {
+            if fails_at(*fault, event) {
+                self.fails(alloc, event, r)?;
+            } else if !is_down(*fault, event) {
+                words = words.saturating_add(1);
+                if words == f.saturating_add(1) {
+                    self.lines.extend_from_slice(reply.as_bytes())?;
+                }
+            }
+            r = r.saturating_add(1);
+        }
+        Ok(())
+    }
+
+    /// The log ends, where each replica that lives is at this place.
+    fn ends(
+        &mut self,
+        alloc: Global,
+        place: usize,
+        faults: &[Option<Fault>],
+    ) -> Result<(), AllocError> {
+        let mut r = 0u32;
+        for fault in faults {
+            let line = match fault {
+                Some(_) => format!(in alloc; "at {r} down\n")?,
+                None => format!(in alloc; "at {r} {place}\n")?,
+            };
+            self.lines.extend_from_slice(line.as_bytes())?;
+            r = r.saturating_add(1);
+        }
+        Ok(())
+    }
+}
+
+/// A bench of so many servers, of which the first have these faults.
+pub fn bench_of(alloc: Global, count: u32, faults: &[Option<Fault>]) -> Result<Bench, Fail>
+    ensures { IfOk result (λ bench. vec_len bench.servers ≡ count) }
+{
+    let mut servers: Vec<Srv> = Vec::new(alloc);
+    for r in 0..count {
+        let mut fails = Vec::new(alloc);
+        if let Some(Some(fault)) = faults.get(r as usize) {
+            fails.push(from_call(fault.call, 1))?;
+        }
+        servers.push(flaky(alloc, fails)?)?;
+    }
+    Ok(Bench::new(alloc, servers))
 }
 
 impl Session {
-    /// A log of 16 entries of at most so many bytes.
-    pub fn new(alloc: Global, bytes: u32) -> Result<Session, AllocError> {
-        Ok(Session {
-            log: bytes_of(alloc, &[0x42415345, 0x4c4f4731, 0, 16, 1024, bytes])?,
-            lines: Vec::new(alloc),
-            calls: 0,
-        })
+    /// No calls, over 16 entries of at most so many bytes.
+    pub fn new(alloc: Global, bytes: u32) -> Session {
+        Session {
+            bytes,
+            records: Vec::new(alloc),
+            replies: Vec::new(alloc),
+        }
     }
 
     /// Adds a call, which is run at once, and its reply. The n-th call has xid n and comes at the second n.
@@ -61,21 +182,24 @@ impl Session {
         args: &[&[u32]],
         words: &[&[u32]],
     ) -> Result<(), AllocError> {
-        self.calls = self.calls.saturating_add(1);
-        let n = self.calls;
+        let n = u32::try_from(self.replies.len())
+            .unwrap_or(0)
+            .saturating_add(1);
         let call = log_of(alloc, &[&[n, 0, 2], head, &[0, 0, 0, 0]])?;
         let args = log_of(alloc, args)?;
         let len = u32::try_from(call.len().saturating_add(args.len())).unwrap_or(!0);
-        self.log
+        self.records
             .extend_from_slice(&bytes_of(alloc, &[1, 0, n, 0, len])?)?;
-        self.log.extend_from_slice(&call)?;
-        self.log.extend_from_slice(&args)?;
-        self.log.extend_from_slice(&bytes_of(alloc, &[RUN_ALL])?)?;
+        self.records.extend_from_slice(&call)?;
+        self.records.extend_from_slice(&args)?;
+        self.records
+            .extend_from_slice(&bytes_of(alloc, &[RUN_ALL])?)?;
         let mut reply = bytes_of(alloc, &[n, 1, 0, 0, 0, 0])?;
         reply.extend_from_slice(&log_of(alloc, words)?)?;
         let hex = hex::encode(alloc, &reply)?;
         let line = format!(in alloc; "reply {n} {hex}\n")?;
-        self.lines.extend_from_slice(line.as_bytes())
+        self.replies.push(line)?;
+        Ok(())
     }
 
     /// Adds a call of a procedure of NFS, and the words of its result.
@@ -100,22 +224,54 @@ impl Session {
         self.call(alloc, &[100005, 1, proc], args, words)
     }
 
-    /// Runs the log over a path server, and fails unless it prints these lines.
-    pub fn runs(self, alloc: Global) -> Result<(), Fail> {
-        let Session {
-            mut log,
-            mut lines,
-            calls,
-        } = self;
+    /// The log over replicas of which f may fail.
+    fn log(&self, alloc: Global, f: u32) -> Result<Vec<u8>, AllocError> {
+        let header = [0x42415345, 0x4c4f4731, f, 16, 1024, self.bytes];
+        let mut log = bytes_of(alloc, &header)?;
+        log.extend_from_slice(&self.records)?;
         log.extend_from_slice(&bytes_of(alloc, &[END])?)?;
-        let last = format!(in alloc; "at 0 {calls}\n")?;
-        lines.extend_from_slice(last.as_bytes())?;
-        let (status, text) = run_in(alloc, log, WHOLE, LIMITS)?;
+        Ok(log)
+    }
+
+    /// What its run comes to, where the servers of the replicas have these faults.
+    fn course(&self, alloc: Global, f: u32, faults: &[Option<Fault>]) -> Result<Course, Fail> {
+        let mut course = Course {
+            lines: Vec::new(alloc),
+            points: Vec::new(alloc),
+        };
+        course.starts(alloc, faults)?;
+        let mut event = 0u64;
+        for reply in &self.replies {
+            event = event.saturating_add(2);
+            course.runs(alloc, f, event, reply.as_str(), faults)?;
+        }
+        course.ends(alloc, self.replies.len(), faults)?;
+        Ok(course)
+    }
+
+    /// Runs the log over ten servers, of which those of the replicas have these faults. It fails unless the run prints
+    /// the lines of the votes, and has the fault points of the faults.
+    pub fn runs_with(&self, alloc: Global, f: u32, faults: &[Option<Fault>]) -> Result<(), Fail> {
+        let mut bench = bench_of(alloc, 10, faults)?;
+        let (status, text) = run_bench(alloc, self.log(alloc, f)?, WHOLE, &mut bench)?;
+        let course = self.course(alloc, f, faults)?;
         if status != Status::Done {
             return Err("not done".into());
         }
-        if text != lines {
+        if text != course.lines {
             return Err("other lines".into());
+        }
+        if bench.downs != course.points {
+            return Err("other fault points".into());
+        }
+        Ok(())
+    }
+
+    /// Runs the log over one replica, over four and over seven.
+    pub fn runs(&self, alloc: Global) -> Result<(), Fail> {
+        let none = [None; 7];
+        for f in 0..=2u32 {
+            self.runs_with(alloc, f, &none[..3 * f as usize + 1])?;
         }
         Ok(())
     }

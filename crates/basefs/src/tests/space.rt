@@ -16,7 +16,7 @@ const NAMES: [u32; 15] = [
 #[test]
 fn the_sixteenth_entry_is_the_last(rt: HostRuntime) -> Result<(), Fail> {
     let alloc = rt.alloc();
-    let mut s = Session::new(alloc, 65536)?;
+    let mut s = Session::new(alloc, 65536);
     for i in 0..15usize {
         let n = i as u32 + 1;
         let new = file(n + 1, 1, 0, 0, [n, n, n]);
@@ -34,7 +34,7 @@ fn the_sixteenth_entry_is_the_last(rt: HostRuntime) -> Result<(), Fail> {
 #[test]
 fn the_last_byte_in_use(rt: HostRuntime) -> Result<(), Fail> {
     let alloc = rt.alloc();
-    let mut s = Session::new(alloc, 1024)?;
+    let mut s = Session::new(alloc, 1024);
     let new = file(2, 1, 0, 0, [1, 1, 1]);
     let full = file(2, 1, 512, 1, [1, 2, 2]);
     s.nfs(alloc, 9, &[&ROOT, &A, &KEEP], &[&OK, &handle(1, 1), &new])?;
@@ -56,7 +56,7 @@ fn the_last_byte_in_use(rt: HostRuntime) -> Result<(), Fail> {
 #[test]
 fn the_last_byte_of_the_largest_file(rt: HostRuntime) -> Result<(), Fail> {
     let alloc = rt.alloc();
-    let mut s = Session::new(alloc, 16777216)?;
+    let mut s = Session::new(alloc, 16777216);
     let new = file(2, 1, 0, 0, [1, 1, 1]);
     let set = file(2, 1, 1048576, 2048, [1, 2, 2]);
     let written = file(2, 1, 1048576, 2048, [1, 3, 3]);
@@ -81,7 +81,7 @@ fn the_last_byte_of_the_largest_file(rt: HostRuntime) -> Result<(), Fail> {
 #[test]
 fn a_name_uses_a_block(rt: HostRuntime) -> Result<(), Fail> {
     let alloc = rt.alloc();
-    let mut s = Session::new(alloc, 65536)?;
+    let mut s = Session::new(alloc, 65536);
     let new = file(2, 1, 0, 0, [1, 1, 1]);
     s.nfs(alloc, 9, &[&ROOT, &A, &KEEP], &[&OK, &handle(1, 1), &new])?;
     s.nfs(alloc, 17, &[&ROOT], &[&OK, &[8192, 512, 128, 127, 127]])?;

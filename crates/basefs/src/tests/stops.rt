@@ -36,8 +36,8 @@ fn logs_that_stop(rt: HostRuntime) -> Result<(), Fail> {
         (
             84,
             b"\0\0\0\x02\0\0\0\0".as_slice(),
-            Status::NotBuilt { at: 84 },
-            0,
+            Status::BadLog { at: 92 },
+            reply,
         ),
         (
             84,
@@ -49,6 +49,12 @@ fn logs_that_stop(rt: HostRuntime) -> Result<(), Fail> {
             84,
             b"\0\0\0\x02\0\0\0".as_slice(),
             Status::BadLog { at: 84 },
+            0,
+        ),
+        (
+            84,
+            b"\0\0\0\x04\0\0\0\0".as_slice(),
+            Status::NotBuilt { at: 84 },
             0,
         ),
         (
@@ -91,7 +97,7 @@ fn logs_that_stop(rt: HostRuntime) -> Result<(), Fail> {
         (
             8,
             b"\0\0\0\x01\0\0\0\x10\0\0\0\x04\0\x01\0\0".as_slice(),
-            Status::NotBuilt { at: 0 },
+            Status::TooFewServers { have: 1, need: 4 },
             0,
         ),
     ] {
@@ -104,7 +110,7 @@ fn logs_that_stop(rt: HostRuntime) -> Result<(), Fail> {
 fn times_do_not_fall(rt: HostRuntime) -> Result<(), Fail> {
     let log = log_of(
         rt.alloc(),
-        &[&header(4), &null_request(1), &null_request(0)],
+        &[&header(0, 4), &null_request(1), &null_request(0)],
     )?;
     let (status, text) = super::run(rt.alloc(), log, WHOLE)?;
     assert_eq!(rt; status, Status::BadLog { at: 84 });

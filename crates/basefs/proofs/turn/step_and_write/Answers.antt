@@ -5,7 +5,8 @@ use Rattle.basefs.proofs.turn.step_and_write.Goals as goal
 
 pub returns-in_err-write_lines-clause-stepped : goal.returns-in_err-write_lines-clause-stepped
 returns-in_err-write_lines-clause-stepped g c =
-    let p = err_from_is_err_and c.from_residual-in_err-write_lines.result c.from_residual-in_err-write_lines.ensures.1 in
+    let p = err_from_is_err_and c.from_residual-in_err-write_lines.result
+    c.from_residual-in_err-write_lines.ensures.1 in
     rw (p.1, p.2) (inl (record {
       lines = c.in_ok-lines.lines.items;
       steps = c.in_ok-lines.ensures.steps;

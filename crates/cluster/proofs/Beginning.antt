@@ -1,0 +1,280 @@
+-- The start: what the model makes of it, and that cluster and bench stand for that.
+use Rattle.std.proofs.Common.{◌≡◌, ◌≢◌, ℕ, zero, suc, ◌+◌, ◌*◌, ◌<◌, ◌≤◌, Bool, true, false, cond, List, [], ◌∷◌, ◌++◌, length, slice_get, Option, Some, None, inl, inr, refl, sym, ◌∙◌, ap, subst, arith}
+use Rattle.std.specs.Prelude.{slice_index_or, replicate}
+use Rattle.std.specs.List.{All}
+use Rattle.std.proofs.lemmas.List.{append-nil, length-set, get_or-set_same, get_or-set_other, get_or-replicate, length-replicate}
+use Rattle.std.proofs.lemmas.Option.{slice_get_within}
+use Rattle.nfs2_types.specs.declared.Limits.{Limits}
+use Rattle.abs_model.specs.declared.Entry.{Entry}
+use Rattle.abs_model.specs.Array.{empty_array}
+use Rattle.server_trait.specs.Tree.{Server}
+use Rattle.server_trait.specs.declared.ConfTable.{ConfTable}
+use Rattle.server_trait.specs.declared.FaultPoint.{FaultPoint}
+use Rattle.server_trait.proofs.TreeLaws.{one_or_not}
+use Rattle.log_format.specs.declared.Line.{Line}
+use Rattle.cluster_model.specs.Service.{Service}
+use Rattle.cluster_model.specs.Tree.{below}
+use Rattle.cluster_model.specs.State.{Condition, Live, Down, Replica, lookup, has}
+use Rattle.cluster_model.specs.Moments.{Moment, Faults, gone, replica, put, fails}
+use Rattle.cluster_model.specs.Turns.{begins, moments, last}
+use Rattle.cluster_model.specs.Run.{Always, faults_in, fresh, start, start_fault}
+use Rattle.cluster_model.proofs.Lines.{Chain, same_grows, chain_moments, start_fault_grows}
+use Rattle.cluster_model.proofs.Voted.{Always-moments}
+use Rattle.service_laws.specs.Served.{service}
+use Rattle.replica.specs.declared.Replica.{Replica as Seat}
+use Rattle.reply_vote.specs.Ballots.{word_at}
+use Rattle.cluster.specs.Positions.{StandsAt}
+use Rattle.cluster.specs.OverBench.{Kept, IsSeat, IsState, HaveArrays}
+use Rattle.cluster.specs.Steps.{Starts}
+use Rattle.cluster.specs.Turned.{FailAs, round_slots}
+use Rattle.cluster.specs.Begun.{SeatBegins, begin_line, begin_lines, Begun}
+use Rattle.cluster.proofs.ListFacts.{read_is, flat_map-append}
+use Rattle.cluster.proofs.Faults.{fails_as, round_differ, round_within, round_size, points_low}
+use Rattle.cluster.proofs.StruckMoments.{struck_moments}
+
+-- THE MODEL'S START
+
+moments_push : {X : Type 0} (small : Moment → X → Moment) (m : Moment) (xs : List X) (x : X) →
+    last m (moments small m (xs ++ x ∷ [])) ≡ small (last m (moments small m xs)) x
+moments_push small m [] x = refl
+moments_push small m (y ∷ xs) x = moments_push small (small m y) xs x
+
+pub lines_more : (faults : Faults) (n : ℕ) →
+    begin_lines faults (suc n) ≡ begin_lines faults n ++ begin_line (faults 0 n) n
+lines_more faults n = flat_map-append (λ r. begin_line (faults 0 r) r) (below n) (n ∷ [])
+    ∙ ap (λ ls. begin_lines faults n ++ ls) (append-nil (begin_line (faults 0 n) n))
+
+module _ (S : Service) (servers : ℕ) (faults : Faults) where
+  -- after the first j replicas had their chance to fail
+  pub record Started (j : ℕ) (m : Moment) : Type 0 where
+    pub requests : m.state.requests ≡ []
+    pub bench : m.state.bench ≡ below servers
+    pub stable : m.state.stable ≡ 0
+    pub decisions : m.state.decisions ≡ []
+    pub size : length m.state.replicas ≡ 3 * S.f + 1
+    pub words : (r : ℕ) → r < 3 * S.f + 1 → (replica m.state r).words ≡ []
+    pub before : (r : ℕ) → r < j → r < 3 * S.f + 1 →
+        (replica m.state r).condition ≡ cond (faults 0 r) Down (Live (begins S 0 S.empty))
+    pub behind : (r : ℕ) → j ≤ r → r < 3 * S.f + 1 → (replica m.state r).condition ≡ Live (begins S 0 S.empty)
+    pub said : m.lines ≡ begin_lines faults j
+
+  started_none : Started 0 (fresh S servers)
+  started_none =
+      let x : Replica = record { condition = Live (begins S 0 S.empty); words = []; roots = [] } in
+      let n = 3 * S.f + 1 in
+      let at : (r : ℕ) → r < n → slice_index_or (replicate n x) r gone ≡ x = λ r l. get_or-replicate n r x gone l in
+      record {
+        requests = refl;
+        bench = refl;
+        stable = refl;
+        decisions = refl;
+        size = length-replicate n x;
+        words = λ r l. ap (λ (y : Replica). y.words) (at r l);
+        before = λ r low l. absurd (omega arith);
+        behind = λ r high l. ap (λ (y : Replica). y.condition) (at r l);
+        said = refl;
+      }
+
+  started_more : (j : ℕ) (m : Moment) → j < 3 * S.f + 1 → Started j m → Started (suc j) (start_fault faults m j)
+  started_more j m within h = by (faults 0 j) refl
+    where
+      said_by : (b : Bool) → faults 0 j ≡ b → m.lines ++ begin_line b j ≡ begin_lines faults (suc j)
+      said_by b e = ap (λ ls. ls ++ begin_line b j) h.said ∙ ap (λ c. begin_lines faults j ++ begin_line c j) (sym e)
+          ∙ sym (lines_more faults j)
+
+      by : (b : Bool) → faults 0 j ≡ b → Started (suc j) (cond b (fails j m) m)
+      by true e =
+          let x : Replica = record (replica m.state j) { condition = Down } in
+          let s = put j x m.state in
+          let same : replica s j ≡ x = get_or-set_same m.state.replicas j x gone (let z = h.size in omega arith) in
+          let other : (k : ℕ) → k ≢ j → replica s k ≡ replica m.state k =
+          λ k ne. get_or-set_other m.state.replicas j k x gone ne in
+          record {
+            requests = h.requests;
+            bench = h.bench;
+            stable = h.stable;
+            decisions = h.decisions;
+            size = length-set m.state.replicas j x ∙ h.size;
+            words = λ r l. elim (one_or_not r j) as (λ _. (replica s r).words ≡ []) [
+              | inl is ↦ ap (λ k. (replica s k).words) is ∙ ap (λ (y : Replica). y.words) same ∙ h.words j within
+              | inr ne ↦ ap (λ (y : Replica). y.words) (other r ne) ∙ h.words r l
+            ];
+            before = λ r low l. elim (one_or_not r j) as
+                (λ _. (replica s r).condition ≡ cond (faults 0 r) Down (Live (begins S 0 S.empty))) [
+                  | inl is ↦ ap (λ k. (replica s k).condition) is ∙ ap (λ (y : Replica). y.condition) same
+                      ∙ sym (ap (λ k. cond (faults 0 k) Down (Live (begins S 0 S.empty))) is
+                      ∙ ap (λ b. cond b Down (Live (begins S 0 S.empty))) e)
+                  | inr ne ↦ ap (λ (y : Replica). y.condition) (other r ne) ∙ h.before r (omega arith) l
+                ];
+            behind = λ r high l. ap (λ (y : Replica). y.condition) (other r (λ z. omega (arith, z, high)))
+                ∙ h.behind r (omega arith) l;
+            said = said_by true e;
+          }
+      by false e = record {
+        requests = h.requests;
+        bench = h.bench;
+        stable = h.stable;
+        decisions = h.decisions;
+        size = h.size;
+        words = h.words;
+        before = λ r low l. elim (one_or_not r j) as
+            (λ _. (replica m.state r).condition ≡ cond (faults 0 r) Down (Live (begins S 0 S.empty))) [
+              | inl is ↦ h.behind r (omega (arith, is)) l
+                  ∙ sym (ap (λ k. cond (faults 0 k) Down (Live (begins S 0 S.empty))) is
+                  ∙ ap (λ b. cond b Down (Live (begins S 0 S.empty))) e)
+              | inr ne ↦ h.before r (omega arith) l
+            ];
+        behind = λ r high l. h.behind r (omega arith) l;
+        said = sym (append-nil m.lines) ∙ said_by false e;
+      }
+
+  started_upto : (j : ℕ) → j ≤ 3 * S.f + 1 →
+      Started j (last (fresh S servers) (moments (start_fault faults) (fresh S servers) (below j)))
+  started_upto zero within = started_none
+  started_upto (suc j) within =
+      let m = fresh S servers in
+      subst (Started (suc j)) (sym (moments_push (start_fault faults) m (below j) j))
+      (started_more j (last m (moments (start_fault faults) m (below j))) (omega arith) (started_upto j (omega arith)))
+
+-- the end of the start
+start_ends : (S : Service) (servers : ℕ) (downs : List FaultPoint) →
+    Started S servers (faults_in downs 0) (3 * S.f + 1) (last (fresh S servers) (start S servers downs))
+start_ends S servers downs = started_upto S servers (faults_in downs 0) (3 * S.f + 1) (omega arith)
+
+start_chain : (S : Service) (servers : ℕ) (downs : List FaultPoint) → Chain (fresh S servers) (start S servers downs)
+start_chain S servers downs = (
+  same_grows (fresh S servers),
+  chain_moments (start_fault (faults_in downs 0)) (start_fault_grows (faults_in downs 0)) (fresh S servers)
+      (below (3 * S.f + 1)),
+)
+
+start_bench : (S : Service) (servers : ℕ) (downs : List FaultPoint) →
+    Always (λ (n : Moment). n.state.bench ≡ below servers) (start S servers downs)
+start_bench S servers downs = (
+  refl,
+  Always-moments (λ (n : Moment). n.state.bench ≡ below servers) (start_fault (faults_in downs 0))
+      (λ m r h. by m r h (faults_in downs 0 0 r)) (fresh S servers) (below (3 * S.f + 1)) refl,
+)
+  where
+    by : (m : Moment) (r : ℕ) → m.state.bench ≡ below servers → (b : Bool) →
+        (cond b (fails r m) m).state.bench ≡ below servers
+    by m r h true = h
+    by m r h false = h
+
+-- what is known of the service
+service_begins : (limits : Limits) → ((service limits).f ≡ limits.f) × ((service limits).empty ≡ empty_array limits.n)
+unfolding service
+service_begins limits = (refl, refl)
+
+-- THE CODE'S START
+
+-- what a cluster keeps that has just begun
+pub record IsNew (limits : Limits) (c : Kept) : Type 0 where
+  pub limits_are : c.limits ≡ limits
+  pub requests : c.requests ≡ []
+  pub voters : length c.ballots ≡ 3 * limits.f + 1
+  pub no_words : (k p : ℕ) → word_at c.ballots k p ≡ None
+  pub decisions : (p : ℕ) → c.decisions p ≡ None
+  pub events : c.events ≡ 0
+
+module _ {X : Type 0} (state : X → Server) (limits : Limits) where
+  begins_seat : (b : Bool) (seat : Option Seat) (s : Option X) (t : Option ConfTable) (c : Condition) →
+      SeatBegins state limits b seat s t →
+      c ≡ cond b Down (Live (begins (service limits) 0 (service limits).empty)) → IsSeat state limits seat s t c
+  begins_seat true None s t c h e = e
+  begins_seat true (Some k) s t c h e = absurd h
+  begins_seat false None s t c h e = absurd h
+  begins_seat false (Some k) s t c h e = record {
+    live = begins (service limits) 0 (service limits).empty;
+    is_live = e;
+    stands = subst (StandsAt state limits s t) (sym (service_begins limits).1) h.1;
+    place = sym h.0;
+    lies = refl;
+    harmed = refl;
+  }
+
+  array_seat : (b : Bool) (seat : Option Seat) (k : Seat) (s : Option X) (t : Option ConfTable) → seat ≡ Some k →
+      SeatBegins state limits b seat s t → StandsAt state limits s t (empty_array limits.n)
+  array_seat true None k s t e h = absurd (cc)
+  array_seat true (Some j) k s t e h = absurd h
+  array_seat false None k s t e h = absurd h
+  array_seat false (Some j) k s t e h = h.1
+
+  module _ (c : Kept) (new : IsNew limits c) (servers servers' : List X) (tables' : List ConfTable) (met : List FaultPoint)
+      (ls : List Line) (h : Begun state limits (3 * limits.f + 1) servers servers' tables' c.seats met ls) where
+    abbrev first : Moment
+    first = fresh (service limits) (length servers)
+
+    abbrev end : Moment
+    end = last first (start (service limits) (length servers) met)
+
+    as_points : FailAs (faults_in met 0) (round_slots 0 (3 * limits.f + 1)) h.faults_are
+    as_points = subst (λ ps. FailAs (faults_in ps 0) (round_slots 0 (3 * limits.f + 1)) h.faults_are) (sym h.met_are)
+        (fails_as 0 (round_slots 0 (3 * limits.f + 1)) h.faults_are
+        (h.long ∙ sym (round_size (3 * limits.f + 1))) (round_differ 0 (3 * limits.f + 1)))
+
+    started : Started (service limits) (length servers) (faults_in met 0) (3 * limits.f + 1) end
+    unfolding service
+    started = start_ends (service limits) (length servers) met
+
+    pub begun_state : IsState state c servers' tables' end.state
+    unfolding service
+    begun_state = record {
+      requests = started.requests ∙ sym new.requests;
+      order = started.bench ∙ ap below (sym h.size);
+      stable = started.stable;
+      decisions = λ p. ap (lookup p) started.decisions ∙ sym (new.decisions p);
+      size = started.size ∙ sym h.many;
+      voters = new.voters ∙ sym h.many;
+      conditions = λ r l. (
+          let low : r < 3 * limits.f + 1 = (let e = h.many in omega arith) in
+          subst (λ l. IsSeat state l (slice_index_or c.seats r None) (slice_get servers' r) (slice_get tables' r)
+          (replica end.state r).condition) (sym new.limits_are)
+          (begins_seat (faults_in met 0 0 r) (slice_index_or c.seats r None) (slice_get servers' r) (slice_get tables' r)
+          (replica end.state r).condition (h.begins (faults_in met 0) as_points r low) (started.before r low low)));
+      words = λ r p l. (
+          let low : r < 3 * limits.f + 1 = (let e = h.many in omega arith) in
+          ap (lookup p) (started.words r low)
+          ∙ sym (ap (λ o. cond (has o) None (word_at c.ballots r p)) (new.decisions p) ∙ new.no_words r p));
+    }
+
+    pub begun_arrays : HaveArrays state c servers' tables'
+    begun_arrays r k e =
+        let at : slice_index_or c.seats r None ≡ Some k = read_is c.seats r (Some k) None e in
+        let low : r < 3 * limits.f + 1 =
+        (let w = slice_get_within c.seats r (Some k) e in let z = h.many in omega arith) in
+        subst (λ l. (A : List Entry) × StandsAt state l (slice_get servers' r) (slice_get tables' r) A)
+        (sym new.limits_are) (
+          empty_array limits.n,
+          array_seat (faults_in met 0 0 r) (slice_index_or c.seats r None) k (slice_get servers' r)
+              (slice_get tables' r) at (h.begins (faults_in met 0) as_points r low),
+        )
+
+    pub begun_starts : Starts state limits c servers servers' tables' met ls
+    unfolding service
+    begun_starts = record {
+      numbered = subst (All (λ (d : FaultPoint). (d.event ≡ 0) × (d.replica < 3 * limits.f + 1))) (sym h.met_are)
+          (points_low limits 0 (round_slots 0 (3 * limits.f + 1)) h.faults_are (round_within 0 (3 * limits.f + 1)));
+      lines_are = sym h.tells;
+      limits_are = new.limits_are;
+      requests = new.requests;
+      events = new.events;
+      stands = begun_state;
+      lines_said = started.said ∙ sym (h.said (faults_in met 0) as_points);
+      struck = struck_moments state first (start (service limits) (length servers) met) ls servers servers'
+          (start_chain (service limits) (length servers) met) refl (start_bench (service limits) (length servers) met)
+          started.bench (started.said ∙ sym (h.said (faults_in met 0) as_points)) h.struck;
+    }
+
+-- a cluster that has just begun
+pub new_cluster : (limits : Limits) (c : Kept) → c.limits ≡ limits → c.requests ≡ [] →
+    length c.ballots ≡ 3 * limits.f + 1 → ((k p : ℕ) → word_at c.ballots k p ≡ None) →
+    ((p : ℕ) → c.decisions p ≡ None) → c.events ≡ 0 → IsNew limits c
+new_cluster limits c limits_are requests voters no_words decisions events = record {
+  limits_are = limits_are;
+  requests = requests;
+  voters = voters;
+  no_words = no_words;
+  decisions = decisions;
+  events = events;
+}

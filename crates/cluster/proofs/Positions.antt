@@ -1,0 +1,102 @@
+-- Claims on positions of a bench, over a write at one of them.
+use Rattle.std.proofs.Common.{◌≡◌, ℕ, ◌<◌, List, Some, Result, Ok, Err, IfOk, length, get_or, slice_get, slice_set, refl, subst}
+use Rattle.std.specs.Prelude.{OnOk}
+use Rattle.std.proofs.lemmas.List.{length-set}
+use Rattle.std.proofs.lemmas.Option.{slice_get_within, slice_get_read, slice_get-get_or}
+use Rattle.nfs2_types.specs.declared.Limits.{Limits}
+use Rattle.abs_model.specs.declared.Entry.{Entry}
+use Rattle.server_trait.specs.Tree.{Server}
+use Rattle.server_trait.specs.declared.ConfTable.{ConfTable}
+use Rattle.server_trait.specs.declared.WrapErr.{WrapErr}
+use Rattle.server_trait.proofs.TreeLaws.{some_same}
+use Rattle.conf_map.specs.Stands.{StandsValid}
+use Rattle.conf_map.specs.Notice.{Watched}
+use Rattle.conf_map.proofs.InStep.{slice_get-set_other, slice_get-set_same}
+use Rattle.cluster_model.specs.declared.Request.{Request}
+use Rattle.replica.specs.Answered.{Answered}
+use Rattle.replica.specs.declared.running.Cast.{Cast}
+use Rattle.replica.specs.declared.running.Replica.{Replica}
+use Rattle.cluster.specs.Positions.{StandsAt, ChangesAt, WatchedAt, AnsweredAt}
+
+pub changes_set : {X : Type 0} (xs : List X) (r : ℕ) (v : X) → ChangesAt r xs (slice_set xs r v)
+changes_set xs r v = record { size = length-set xs r v; others = λ k ne. slice_get-set_other xs r k v ne }
+
+-- what is read at a place of the list is what stands there
+read_at : {X : Type 0} (xs : List X) (r : ℕ) (x y : X) → slice_get xs r ≡ Some y → x ≡ get_or xs r x →
+    slice_get xs r ≡ Some x
+read_at xs r x y at is = slice_get_read xs (length xs) r x refl (slice_get_within xs r y at) is
+
+-- a list, what is read at a place of it, and what is written there
+module _ {X : Type 0} (state : X → Server) (xs : List X) (tables : List ConfTable) (r : ℕ) (limits : Limits)
+    {A₀ : List Entry} (h₀ : StandsAt state limits (slice_get xs r) (slice_get tables r) A₀) (x v : X)
+    (t w : ConfTable) (is_x : x ≡ get_or xs r x) (is_t : t ≡ get_or tables r t) where
+  here_x : slice_get xs r ≡ Some x
+  here_x = read_at xs r x h₀.server h₀.is_server is_x
+
+  here_t : slice_get tables r ≡ Some t
+  here_t = read_at tables r t h₀.table h₀.is_table is_t
+
+  pub watched_at : {T : Type 0} {result : Result T WrapErr} → Watched (state x) (state v) result →
+      WatchedAt state (slice_get xs r) (slice_get (slice_set xs r v) r) result
+  watched_at h = record {
+    before = x;
+    after = v;
+    is_before = here_x;
+    is_after = slice_get-set_same xs r v x here_x;
+    watched = h;
+  }
+
+  pub answered_at : (result : Result Cast WrapErr) (q : Request) →
+      IfOk result (λ cast. Answered limits q.time q.bytes (state x).tree (state v).tree t w cast.word) →
+      IfOk result (λ cast. AnsweredAt state limits q (slice_get xs r) (slice_get tables r)
+      (slice_get (slice_set xs r v) r) (slice_get (slice_set tables r w) r) cast.word)
+  answered_at (Ok cast) q h = record {
+    step = λ A s.
+        let same_s : s.server ≡ x = some_same s.is_server here_x in
+        let same_t : s.table ≡ t = some_same s.is_table here_t in
+        let st : StandsValid limits (state x).tree t A = subst (λ y. StandsValid limits (state y).tree t A) same_s
+        (subst (λ u. StandsValid limits (state s.server).tree u A) same_t s.stands) in
+        let out = h.step A st in (
+          record {
+            server = v;
+            table = w;
+            is_server = slice_get-set_same xs r v x here_x;
+            is_table = slice_get-set_same tables r w t here_t;
+            stands = out.0;
+          },
+          out.1,
+        );
+  }
+  answered_at (Err e) q h = tt
+
+  pub stands_here : StandsValid limits (state x).tree t A₀
+  stands_here = subst (λ y. StandsValid limits (state y).tree t A₀) (some_same h₀.is_server here_x)
+      (subst (λ u. StandsValid limits (state h₀.server).tree u A₀) (some_same h₀.is_table here_t) h₀.stands)
+
+-- a position that begins
+module _ {X : Type 0} (state : X → Server) (xs : List X) (tables : List ConfTable) (r : ℕ) (in_x : r < length xs)
+    (in_t : r < length tables) (x v : X) (t w : ConfTable) (is_x : x ≡ get_or xs r x) where
+  first_x : slice_get xs r ≡ Some x
+  first_x = slice_get_read xs (length xs) r x refl in_x is_x
+
+  pub fresh_watched : {T : Type 0} {result : Result T WrapErr} → Watched (state x) (state v) result →
+      WatchedAt state (slice_get xs r) (slice_get (slice_set xs r v) r) result
+  fresh_watched h = record {
+    before = x;
+    after = v;
+    is_before = first_x;
+    is_after = slice_get-set_same xs r v x first_x;
+    watched = h;
+  }
+
+  pub fresh_stands : (limits : Limits) (A : List Entry) (result : Result Replica WrapErr) →
+      OnOk result (StandsValid limits (state v).tree w A) →
+      OnOk result (StandsAt state limits (slice_get (slice_set xs r v) r) (slice_get (slice_set tables r w) r) A)
+  fresh_stands limits A (Ok k) h = record {
+    server = v;
+    table = w;
+    is_server = slice_get-set_same xs r v x first_x;
+    is_table = slice_get-set_same tables r w (get_or tables r t) (slice_get-get_or tables r t in_t);
+    stands = h;
+  }
+  fresh_stands limits A (Err e) h = tt

@@ -1,0 +1,62 @@
+-- How replicas begin. Contracts inside the crate and their proofs use it.
+use Rattle.std.specs.Prelude.{◌≡◌, ◌<◌, ℕ, Bool, false, true, List, [], ◌∷◌, ◌++◌, map, length, slice_get, slice_index_or, Option, Some, None}
+use Rattle.std.specs.List.{flat_map}
+use Rattle.nfs2_types.specs.declared.Limits.{Limits}
+use Rattle.abs_model.specs.Array.{empty_array}
+use Rattle.server_trait.specs.Tree.{Server}
+use Rattle.server_trait.specs.declared.ConfTable.{ConfTable}
+use Rattle.server_trait.specs.declared.FaultPoint.{FaultPoint}
+use Rattle.log_format.specs.declared.Line.{Line}
+use Rattle.log_format.specs.declared.Line.TheVariants as lines
+use Rattle.cluster_model.specs.Tree.{below}
+use Rattle.cluster_model.specs.Moments.{Faults}
+use Rattle.cluster_model.specs.Run.{failed_of}
+use Rattle.replica.specs.declared.Replica.{Replica}
+use Rattle.cluster.specs.Positions.{StandsAt, ChangesAt}
+use Rattle.cluster.specs.Turned.{AreStruckBy, FailAs, points, points_of, round_slots}
+
+-- a replica whose server failed is none; another is at place 0, and its position stands for the array of a beginning
+abbrev pub SeatBegins : {X : Type 0} → (X → Server) → Limits → Bool → Option Replica → Option X → Option ConfTable →
+    Type 0
+SeatBegins state limits true None s t = Unit {0}
+SeatBegins state limits false (Some k) s t = (k.place ≡ 0) × StandsAt state limits s t (empty_array limits.n)
+SeatBegins state limits true (Some k) s t = ⊥
+SeatBegins state limits false None s t = ⊥
+
+-- the line of a replica's beginning: one where its server failed
+abbrev pub begin_line : Bool → ℕ → List Line
+begin_line false r = []
+begin_line true r = lines.Down r ∷ []
+
+-- replica r began, behind those before it
+pub record BeginsAt {X : Type 0} (state : X → Server) (limits : Limits) (r : ℕ) (servers servers' : List X)
+    (tables tables' : List ConfTable) (seats seats' : List (Option Replica)) (met met' : List FaultPoint)
+    (ls ls' : List Line) : Type 0 where
+  pub fault : Bool
+  pub seat : Option Replica
+  pub seats_are : seats' ≡ seats ++ seat ∷ []
+  pub met_are : met' ≡ met ++ points 0 (record { round = 0; replica = r }) fault
+  pub lines_are : ls' ≡ ls ++ begin_line fault r
+  pub begins : SeatBegins state limits fault seat (slice_get servers' r) (slice_get tables' r)
+  pub servers_change : ChangesAt r servers servers'
+  pub tables_change : ChangesAt r tables tables'
+  pub struck : AreStruckBy state (begin_line fault r) servers servers'
+
+-- the lines of the first n replicas, where servers fail so
+abbrev pub begin_lines : Faults → ℕ → List Line
+begin_lines faults n = flat_map (λ r. begin_line (faults 0 r) r) (below n)
+
+-- the first n replicas began, each as these faults say
+pub record Begun {X : Type 0} (state : X → Server) (limits : Limits) (n : ℕ) (servers servers' : List X)
+    (tables' : List ConfTable) (seats : List (Option Replica)) (met : List FaultPoint) (ls : List Line)
+    : Type 0 where
+  pub faults_are : List Bool
+  pub long : length faults_are ≡ n
+  pub many : length seats ≡ n
+  pub met_are : met ≡ points_of 0 (round_slots 0 n) faults_are
+  pub tells : flat_map failed_of ls ≡ map (λ (d : FaultPoint). d.replica) met
+  pub struck : AreStruckBy state ls servers servers'
+  pub size : length servers' ≡ length servers
+  pub begins : (faults : Faults) → FailAs faults (round_slots 0 n) faults_are → (r : ℕ) → r < n →
+      SeatBegins state limits (faults 0 r) (slice_index_or seats r None) (slice_get servers' r) (slice_get tables' r)
+  pub said : (faults : Faults) → FailAs faults (round_slots 0 n) faults_are → ls ≡ begin_lines faults n

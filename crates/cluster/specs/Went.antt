@@ -1,0 +1,35 @@
+-- What the step of a record does before it is counted and its fault points go to the bench. Contracts inside the
+-- crate and their proofs use it.
+use Rattle.std.specs.Prelude.{◌≡◌, ℕ, suc, List, [], ◌∷◌, ◌++◌, Option, Some, None}
+use Rattle.server_trait.specs.Tree.{Server}
+use Rattle.server_trait.specs.declared.ConfTable.{ConfTable}
+use Rattle.server_trait.specs.declared.FaultPoint.{FaultPoint}
+use Rattle.log_format.specs.declared.Event.{Event}
+use Rattle.log_format.specs.declared.Line.{Line}
+use Rattle.log_format.specs.declared.Line.TheVariants.{At, AtDown}
+use Rattle.cluster_model.specs.Moments.{Moment}
+use Rattle.cluster_model.specs.Run.{AreMet}
+use Rattle.replica.specs.declared.Replica.{Replica}
+use Rattle.cluster.specs.OverBench.{Kept, IsState}
+use Rattle.cluster.specs.Steps.{ArePointsOf, Follows, asked_by}
+
+-- these fault points were met and these lines printed, and the model makes the step
+pub record Went {X : Type 0} (state : X → Server) (event : Event) (old new : Kept) (servers servers' : List X)
+    (tables tables' : List ConfTable) (met : List FaultPoint) (lines : List Line) : Type 0 where
+  pub numbered : ArePointsOf old.limits (suc old.events) met
+  pub lines_are : AreMet met lines
+  pub limits : new.limits ≡ old.limits
+  pub requests : new.requests ≡ old.requests ++ asked_by event
+  pub events : new.events ≡ old.events
+  pub moves : (m : Moment) → IsState state old servers tables m.state →
+      Follows state old new servers servers' tables' met event lines m
+
+-- the line of a replica at the end
+abbrev pub end_line : ℕ → Option Replica → Line
+end_line r None = AtDown r
+end_line r (Some k) = At r k.place
+
+-- the line of each replica, the first of them having the number r
+abbrev pub end_lines : ℕ → List (Option Replica) → List Line
+end_lines r [] = []
+end_lines r (x ∷ xs) = end_line r x ∷ end_lines (suc r) xs
