@@ -8,14 +8,13 @@ use Rattle.nfs2_types.specs.declared.fattr.Kind.TheVariants.{Dir}
 use Rattle.nfs2_types.specs.declared.time.Time.{Time}
 use Rattle.server_trait.specs.Tree.{Tree, Node, Content, Names, ByBytes, Server, names_in, node_at, names_at, target, size_of, links_of}
 use Rattle.server_trait.specs.Step.{OnlySoft, IsStale, IsNo, HasName, LacksName, NoRoom}
-use Rattle.server_trait.specs.Calls.{IsAttr, Attr, Lookup, Lists, ListNames, SetAttr, Make, Made, Reboot, Rebooted, NodeErr, DirErr, LookupErr, MakeErr}
+use Rattle.server_trait.specs.Calls.{IsAttr, Attr, Lookup, Lists, ListNames, SetAttr, Make, Made, NodeErr, DirErr, LookupErr, MakeErr}
 use Rattle.server_trait.specs.declared.server.SrvErr.{SrvErr}
 use Rattle.server_trait.specs.declared.server.SrvErr.TheVariants.{Stale, NoEnt, Exists, NotDir, WrongKind, Full}
 use Rattle.server_trait.specs.declared.server.Listed.{Listed}
 use Rattle.server_trait.specs.declared.server.NodeAttr.{NodeAttr}
 use Rattle.server_trait.specs.declared.server.ServerLimits.{ServerLimits}
 use Rattle.server_trait.proofs.TreeLaws.{is_some_and, some_and}
-use Rattle.server_trait.proofs.RebootLaws.{same_tree}
 use Rattle.server_trait.proofs.SoftLaws.{node_soft, dir_soft, lookup_soft, make_soft}
 use Rattle.path_server.specs.Bytes.{bytes_under, content_of}
 use Rattle.path_server.specs.Kept.{Kept, IsFound, IsFoundDir, the_tree, tree_of}
@@ -142,15 +141,6 @@ module _ (held : Bool) (limits : ServerLimits) (next bytes : ℕ) (k : Kept) (so
   pub set_attr-stale : (h : List ℕ) (mode uid gid : ℕ) → get k.nodes h ≡ None →
       SetAttr the_server h mode uid gid (Err Stale) the_server
   set_attr-stale h mode uid gid is = record { tree = told_stale h is; limits = refl; faults = refl }
-
-  -- the tree stands under the handles that it had
-  pub reboot-ok : (r : Unit {0}) → Reboot the_server (Ok r) the_server
-  reboot-ok r = record {
-    tree = held_tree held now (λ t. Rebooted t (tree_of held k) × OnlySoft (λ _. ⊥)) (λ there.
-        (subst (Rebooted now) (sym (stays there)) (same_tree now), λ e none. absurd none));
-    limits = refl;
-    faults = refl;
-  }
 
   -- NAMES
 

@@ -1,5 +1,5 @@
 -- A server that starts afresh, and one whose node has other attributes.
-use Rattle.std.proofs.Common.{inl, inr, ◌≡◌, ◌↔◌, ℕ, ◌+◌, ◌<◌, ◌≤◌, Bool, cond, List, [], take, Some, None, IsSome, IsSomeAnd, is_some, Ok, refl, sym, ap, ◌∙◌, subst, arith}
+use Rattle.std.proofs.Common.{inl, inr, ◌≡◌, ◌↔◌, ℕ, ◌+◌, ◌≤◌, Bool, cond, List, [], length, take, Some, None, IsSome, IsSomeAnd, is_some, Ok, refl, sym, ap, ◌∙◌, subst, arith}
 use Rattle.std.specs.Option.{option_map}
 use Rattle.std.specs.Ordering.{nat_cmp}
 use Rattle.std.specs.Cmp.Lexicographic.{slice_cmp, nat_list_cmp_total}
@@ -17,14 +17,15 @@ use Rattle.path_server.specs.Bytes.{Contents}
 use Rattle.path_server.specs.Kept.{Kept, kept_as, full_node, nodes_of, the_tree, tree_of}
 use Rattle.path_server.specs.Nodes.{made_node, set_node}
 use Rattle.path_store.specs.Stored.{Paths, Stored, names_of, only_root}
+use Rattle.path_store.specs.Tables.{place_of}
 use Rattle.path_server.specs.Serials.{serial_bytes}
-use Rattle.path_server.specs.Sound.{IsSound, IsStored, IsCounted}
+use Rattle.path_server.specs.Sound.{IsSound, IsSerial, IsStored, IsCounted}
 use Rattle.path_server.specs.declared.node.PathNode.{PathNode}
 use Rattle.path_store.proofs.Rows.{bytes_exact}
 use Rattle.path_server.proofs.ContentLaws.{names_to-new}
 use Rattle.path_server.proofs.CountedLaws.{counted_same}
 use Rattle.path_store.proofs.NameLaws.{names_of-none}
-use Rattle.path_server.proofs.NamedLaws.{IsDirNode, beside_grown, is_some_none, is_and_none, dir_same}
+use Rattle.path_server.proofs.NamedLaws.{IsDirNode, is_some_none, is_and_none, dir_same}
 use Rattle.path_server.proofs.NodeLaws.{get-nodes_of, node_at-kept, node_here, kind_at}
 use Rattle.path_server.proofs.StoredLaws.{stored_put}
 use Rattle.path_server.proofs.Serials.{length-serial_bytes}
@@ -62,9 +63,10 @@ links-bare : (root q : List ℕ) → links (bare root) q ≡ 0
 links-bare root q = links-none (bare root) q (λ named. let t = target_found (bare root) named.0 named.1 q named.2 in
     some_none t.is_node (get-empty (slice_cmp nat_cmp) named.0))
 
-module _ (number : ℕ) (contents : Contents) where
-  abbrev root : List ℕ
-  root = serial_bytes number
+module _ (number : ℕ) (root : List ℕ) (is_root : root ≡ serial_bytes number (place_of root))
+    (contents : Contents) where
+  root_fits : length root ≡ 32
+  root_fits = ap length is_root ∙ length-serial_bytes number (place_of root)
 
   abbrev first_node : PathNode
   first_node = made_node Dir number 0
@@ -73,7 +75,7 @@ module _ (number : ℕ) (contents : Contents) where
   kept_fresh = kept_as root (insert empty root first_node) contents empty
 
   no_names : names_of empty root ≡ empty
-  no_names = names_of-none root (length-serial_bytes number) empty (λ x. get-empty (slice_cmp nat_cmp) _)
+  no_names = names_of-none root root_fits empty (λ x. get-empty (slice_cmp nat_cmp) _)
 
   no_nodes : nodes_of empty contents empty ≡ empty
   no_nodes = same_map nat_list_cmp_total bytes_exact _ _ (λ q. get-nodes_of empty contents empty q
@@ -131,12 +133,11 @@ module _ (number : ℕ) (contents : Contents) where
     links = sym links_fresh;
   }
 
-  sound_fresh : (limits : ServerLimits) → contents ≡ empty → IsSound limits (number + 1) 0 kept_fresh
-  sound_fresh limits none = record {
-    serials = at_root (λ q x. (q ≡ serial_bytes x.number) × (x.number < number + 1)) (refl, omega arith);
+  sound_fresh : (limits : ServerLimits) → IsSound limits (number + 1) 0 kept_fresh
+  sound_fresh limits = record {
+    serials = at_root (IsSerial (number + 1)) (is_root, omega arith);
     named = λ key h at. absurd (some_none at (get-empty (slice_cmp nat_cmp) key));
     counted = at_root (IsCounted kept_fresh) counted_fresh;
-    beside = λ h _. ap (λ m. get m h) none ∙ get-empty (slice_cmp nat_cmp) h;
     bytes_used = sym used_fresh;
     bytes_most = omega arith;
     nodes_most = let one : len kept_fresh.nodes ≡ 1 = len-insert nat_list_cmp_total empty root first_node
@@ -170,19 +171,19 @@ module _ (number : ℕ) (contents : Contents) where
   }
 
 -- the same, of what a server came to
-module _ (number : ℕ) (root : List ℕ) (nodes : ByBytes PathNode) (contents : Contents) (paths : Paths) (is_root :
-    root ≡ serial_bytes number) (is_nodes : nodes ≡ insert empty root (made_node Dir number 0)) (is_paths : paths ≡
-    empty) where
+module _ (number : ℕ) (root : List ℕ) (is_root : root ≡ serial_bytes number (place_of root))
+    (nodes : ByBytes PathNode) (contents : Contents) (paths : Paths)
+    (is_nodes : nodes ≡ insert empty root (made_node Dir number 0)) (is_paths : paths ≡ empty) where
   pub fresh_after : IsFresh (Some (the_tree (kept_as root nodes contents paths)))
-  fresh_after = rw (is_nodes, is_paths, is_root) (fresh number contents)
+  fresh_after = rw (is_nodes, is_paths) (fresh number root is_root contents)
 
   pub stored_started : (store : Stored) → store ≡ only_root root → IsStored nodes store
-  stored_started store is_store = rw (is_nodes, is_store, is_root) (stored_fresh number contents)
+  stored_started store is_store = rw (is_nodes, is_store) (stored_fresh number root is_root contents)
 
-  pub sound_started : (limits : ServerLimits) (next : ℕ) → next ≡ number + 1 → contents ≡ empty →
+  pub sound_started : (limits : ServerLimits) (next : ℕ) → next ≡ number + 1 →
       IsSound limits next 0 (kept_as root nodes contents paths)
-  sound_started limits next is_next none = rw (is_nodes, is_paths, is_root, is_next) (sound_fresh number contents
-      limits none)
+  sound_started limits next is_next = rw (is_nodes, is_paths, is_next) (sound_fresh number root is_root contents
+      limits)
 
 -- OTHER ATTRIBUTES
 
@@ -231,9 +232,6 @@ module _ (limits : ServerLimits) (next bytes : ℕ) (k : Kept) (h : List ℕ) (p
   dirs_set : (q : List ℕ) → IsSomeAnd (get k.nodes q) IsDirNode → IsSomeAnd (get (insert k.nodes h changed) q) IsDirNode
   dirs_set q = dir_same (get k.nodes q) (get (insert k.nodes h changed) q) (sym (kinds_set q))
 
-  pub stored_set : (store : Stored) → IsStored k.nodes store → IsStored (insert k.nodes h changed) store
-  stored_set store stored = stored_put k.nodes h changed store p is refl refl stored
-
   links_set : (q : List ℕ) → links (the_tree kept_set) q ≡ links now q
   links_set q =
       let same : links (the_tree kept_set) q ≡ links (edited now h (with_attr mode uid gid)) q =
@@ -241,11 +239,10 @@ module _ (limits : ServerLimits) (next bytes : ℕ) (k : Kept) (h : List ℕ) (p
       let change = links-edited now h (with_attr mode uid gid) (node_here k h p) q at_now in
       omega (arith, same, change)
 
-  pub sound_set : IsSound limits next bytes k → IsSound limits next bytes kept_set
-  sound_set sound = record {
-    serials = by_place (λ q x. (q ≡ serial_bytes x.number) × (x.number < next)) (sound.serials h p is) sound.serials;
+  sound_kept : IsSound limits next bytes k → IsSound limits next bytes kept_set
+  sound_kept sound = record {
+    serials = by_place (IsSerial next) (sound.serials h p is) sound.serials;
     named = λ key x at. let both = sound.named key x at in (dirs_set (take 32 key) both.0, grows x both.1);
-    beside = beside_grown k.nodes (insert k.nodes h changed) k.contents grows sound.beside;
     counted = by_place (IsCounted kept_set)
         (counted_same k kept_set h p changed refl kinds_set (links_set h) refl refl refl (sound.counted h p is))
         (λ q x at. counted_same k kept_set q x x refl kinds_set (links_set q) refl refl refl (sound.counted q x at));
@@ -260,13 +257,9 @@ module _ (limits : ServerLimits) (next bytes : ℕ) (k : Kept) (h : List ℕ) (p
         is in let most = sound.nodes_most in omega (arith, one, most);
   }
 
-  pub set_attr-ok : (held : Bool) → SetAttr (record {
-    tree = tree_of held k;
-    limits = limits;
-    faults =
-        0;
-  }) h mode uid gid (Ok tt) (record { tree = tree_of held kept_set; limits = limits; faults = 0 })
-  set_attr-ok held = record {
+  set_attr-kept : (held : Bool) → SetAttr (record { tree = tree_of held k; limits = limits; faults = 0 }) h mode uid gid
+      (Ok tt) (record { tree = tree_of held kept_set; limits = limits; faults = 0 })
+  set_attr-kept held = record {
     tree = held_tree held now (λ t. (tree_of held kept_set ≡ Some (edited t h (with_attr mode uid gid))) × OnlySoft
         (NodeErr h t)) (λ there. (
           ap (λ b. cond b (Some (the_tree kept_set)) None) there
@@ -276,3 +269,23 @@ module _ (limits : ServerLimits) (next bytes : ℕ) (k : Kept) (h : List ℕ) (p
     limits = refl;
     faults = refl;
   }
+
+  -- what a server came to
+  module _ (nodes' : ByBytes PathNode) (is_nodes : nodes' ≡ insert k.nodes h changed) (contents' : Contents)
+      (is_contents : contents' ≡ k.contents) where
+    kept_is : kept_as k.root nodes' contents' k.paths ≡ kept_set
+    kept_is = ap (λ m. kept_as k.root m contents' k.paths) is_nodes
+        ∙ ap (λ c. kept_as k.root (insert k.nodes h changed) c k.paths) is_contents
+
+    pub sound_set : IsSound limits next bytes k → IsSound limits next bytes (kept_as k.root nodes' contents' k.paths)
+    sound_set sound = subst (IsSound limits next bytes) (sym kept_is) (sound_kept sound)
+
+    pub stored_set : (store : Stored) → IsStored k.nodes store → IsStored nodes' store
+    stored_set store stored = subst (λ (m : ByBytes PathNode). IsStored m store) (sym is_nodes)
+        (stored_put k.nodes h changed store p is refl refl stored)
+
+    pub set_attr-ok : (held : Bool) → SetAttr (record { tree = tree_of held k; limits = limits; faults = 0 }) h mode uid
+        gid (Ok tt) (record { tree = tree_of held (kept_as k.root nodes' contents' k.paths); limits = limits; faults = 0 })
+    set_attr-ok held = subst (λ (l : Kept). SetAttr (record { tree = tree_of held k; limits = limits; faults = 0 }) h mode
+        uid gid (Ok tt) (record { tree = tree_of held l; limits = limits; faults = 0 })) (sym kept_is)
+        (set_attr-kept held)

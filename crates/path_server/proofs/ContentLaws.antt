@@ -1,16 +1,16 @@
 -- What a node contains, by its kind.
-use Rattle.std.proofs.Common.{inl, inr, ◌⊎◌, ◌≡◌, ◌≢◌, ℕ, List, [], length, Some, None, refl, sym, ap, ◌∙◌, arith}
+use Rattle.std.proofs.Common.{inl, inr, ◌⊎◌, ◌≡◌, ◌≢◌, ℕ, List, [], length, Some, None, refl, sym, ap, arith}
 use Rattle.std.specs.Prelude.{unwrap_or, Bool, true, false}
 use Rattle.std.specs.Ordering.{nat_cmp}
 use Rattle.std.specs.Cmp.Lexicographic.{slice_cmp, nat_list_cmp_total}
-use Rattle.std.specs.FinMap.{get, insert, remove, empty, get-empty, len-empty}
+use Rattle.std.specs.FinMap.{insert, remove, empty, get-empty, len-empty}
 use Rattle.nfs2_types.specs.declared.fattr.Kind.{Kind}
 use Rattle.nfs2_types.specs.declared.fattr.Kind.TheVariants.{File, Dir, Link}
 use Rattle.server_trait.specs.Tree.{Content, BytesOf, TextOf, NamesOf, Names, bytes_in, text_in, names_in, kind_of, names_to, used_by}
 use Rattle.server_trait.proofs.SumLaws.{total-none}
 use Rattle.server_trait.proofs.TreeLaws.{some_none, get-insert_same, get-insert_other, get-remove_other}
 use Rattle.path_server.specs.Nodes.{is_dir}
-use Rattle.path_server.specs.Bytes.{Contents, IsAdded, bytes_under, content_of}
+use Rattle.path_server.specs.Bytes.{Contents, bytes_under, content_of}
 
 -- KINDS
 
@@ -110,19 +110,7 @@ pub bytes-insert_other : (contents : Contents) (h b q : List ℕ) → q ≢ h �
 unfolding bytes_under
 bytes-insert_other contents h b q ne = ap (λ o. unwrap_or o []) (get-insert_other contents h b q ne)
 
-pub bytes-same : (old new : Contents) (q : List ℕ) → get new q ≡ get old q → bytes_under new q ≡ bytes_under old q
-unfolding bytes_under
-bytes-same old new q same = ap (λ o. unwrap_or o []) same
-
 pub bytes-remove_other : (contents : Contents) (h q : List ℕ) → q ≢ h →
     bytes_under (remove contents h) q ≡ bytes_under contents q
 unfolding bytes_under
 bytes-remove_other contents h q ne = ap (λ o. unwrap_or o []) (get-remove_other contents h q ne)
-
-pub added-bytes : (kind : Kind) (h b c : List ℕ) (old new : Contents) → c ≡ b → new ≡ insert old h c →
-    IsAdded kind h b old new
-added-bytes kind h b c old new same is = record {
-  here = λ names. ap (λ m. content_of kind (bytes_under m h) names) is
-      ∙ ap (λ l. content_of kind l names) (bytes-insert_same old h c ∙ same);
-  others = λ q ne. ap (λ m. get m q) is ∙ get-insert_other old h c q ne;
-}

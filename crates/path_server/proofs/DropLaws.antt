@@ -11,7 +11,7 @@ use Rattle.server_trait.specs.declared.server.ServerLimits.{ServerLimits}
 use Rattle.server_trait.proofs.CountLaws.{subdirs-same}
 use Rattle.server_trait.proofs.TreeLaws.{some_none, some_same, bytes_or_not, get-remove_same, get-remove_other}
 use Rattle.path_store.specs.Stored.{Paths, Stored, Drops, names_of}
-use Rattle.path_server.specs.Bytes.{bytes_under}
+use Rattle.path_server.specs.Bytes.{Contents, bytes_under}
 use Rattle.path_server.specs.Kept.{Kept, kept_as, the_tree}
 use Rattle.path_server.specs.Nodes.{is_dir, one_less, one_link_less}
 use Rattle.path_server.specs.Sound.{IsSound, IsStored, IsCounted, AreNamed}
@@ -20,7 +20,7 @@ use Rattle.path_server.proofs.ContentLaws.{dir_content}
 use Rattle.path_server.proofs.CountChanges.{len-remove_old, links-unnamed, let_go-linked, subdirs-remove, used-unnamed}
 use Rattle.path_store.proofs.NameLaws.{get-names_of}
 use Rattle.path_server.proofs.NamesWithout.{names_of-remove_same, names_of-remove_other}
-use Rattle.path_server.proofs.NamedLaws.{IsDirNode, beside_grown, leaf_is_no_dir, no_path}
+use Rattle.path_server.proofs.NamedLaws.{IsDirNode, leaf_is_no_dir, no_path}
 use Rattle.path_server.proofs.NodeLaws.{node_at-kept, node_here, kind_at, is_dir_kind, is_dir_at-kind, same_dirs}
 use Rattle.path_server.proofs.Recounted as recount
 use Rattle.path_server.proofs.Serials.{kept_fits}
@@ -193,7 +193,6 @@ module _ (limits : ServerLimits) (next bytes : ℕ) (k : Kept) (sound : IsSound 
     sound_less = record {
       serials = recount.serials_after k nodes' paths_less counts alike are next sound.serials;
       named = named_less;
-      beside = beside_grown k.nodes nodes' k.contents (recount.grows k nodes' paths_less counts alike are) sound.beside;
       counted = recount.each_after k nodes' paths_less counts alike are (IsCounted after) counted_less;
       bytes_used = let all = sound.bytes_used in let change = used_less in omega (arith, all, change);
       bytes_most = let most = sound.bytes_most in omega (arith, most);
@@ -230,6 +229,7 @@ module _ (limits : ServerLimits) (next bytes : ℕ) (k : Kept) (sound : IsSound 
     get k.paths (dir ++ name) ≡ Some h) (x : PathNode) (at_h : get k.nodes h ≡ Some x) (other : x.kind ≢ Dir)
     (nodes' : ByBytes PathNode)
     (is_nodes : nodes' ≡ insert (insert k.nodes dir (one_less x.kind p)) h (one_link_less x))
+    (contents' : Contents) (is_contents : contents' ≡ k.contents)
     (store store' : Stored) (is_paths : k.paths ≡ store.names) (drops : Drops store dir name h store') where
   are_dropped : (q : List ℕ) → get nodes' q ≡ option_map (less_if x.kind (bytes_eq dir q) (bytes_eq h q))
       (get k.nodes q)
@@ -239,10 +239,12 @@ module _ (limits : ServerLimits) (next bytes : ℕ) (k : Kept) (sound : IsSound 
       ∙ is_directory)) refl refl (λ y. refl) q
 
   abbrev dropped : Kept
-  dropped = kept_as k.root nodes' k.contents store'.names
+  dropped = kept_as k.root nodes' contents' store'.names
 
-  names_dropped : store'.names ≡ remove k.paths (dir ++ name)
-  names_dropped = drops.names ∙ ap (λ m. remove m (dir ++ name)) (sym is_paths)
+  kept_dropped : dropped ≡ kept_as k.root nodes' k.contents (remove k.paths (dir ++ name))
+  kept_dropped = ap (λ c. kept_as k.root nodes' c store'.names) is_contents
+      ∙ ap (λ m. kept_as k.root nodes' k.contents m) drops.names
+      ∙ ap (λ m. kept_as k.root nodes' k.contents (remove m (dir ++ name))) (sym is_paths)
 
   pub few_dropped : 512 ≤ bytes
   few_dropped = name_used limits next bytes k sound dir name p is is_directory h leads x at_h nodes' are_dropped
@@ -251,13 +253,12 @@ module _ (limits : ServerLimits) (next bytes : ℕ) (k : Kept) (sound : IsSound 
   tree_dropped more =
       let left = links_left limits next bytes k sound dir name p is is_directory h leads x at_h nodes' are_dropped in
       let tree = tree_less limits next bytes k sound dir name p is is_directory h leads x at_h nodes' are_dropped in
-      ap (λ m. the_tree (kept_as k.root nodes' k.contents m)) names_dropped ∙ tree
+      ap the_tree kept_dropped ∙ tree
       ∙ sym (let_go-linked (unnamed (the_tree k) dir name) h (let same = ap (λ t. links t h) tree in
       omega (arith, left, same, more)))
 
   pub sound_dropped : IsSound limits next (bytes - 512) dropped
-  sound_dropped = subst (λ m. IsSound limits next (bytes - 512) (kept_as k.root nodes' k.contents m))
-      (sym names_dropped)
+  sound_dropped = subst (IsSound limits next (bytes - 512)) (sym kept_dropped)
       (sound_less limits next bytes k sound dir name p is is_directory h leads x at_h nodes' are_dropped)
 
   pub stored_dropped : IsStored k.nodes store → IsStored nodes' store'

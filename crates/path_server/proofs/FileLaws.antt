@@ -1,5 +1,5 @@
 -- A server whose file has other bytes.
-use Rattle.std.proofs.Common.{inl, inr, ◌≡◌, ◌≢◌, ℕ, ◌+◌, ◌-◌, ◌≤◌, List, [], length, Option, Some, None, IsSomeAnd, refl, sym, ap, ◌∙◌, subst, arith}
+use Rattle.std.proofs.Common.{inl, inr, ◌≡◌, ◌≢◌, ℕ, ◌+◌, ◌-◌, ◌≤◌, List, length, Option, Some, None, IsSomeAnd, refl, sym, ap, ◌∙◌, subst, arith}
 use Rattle.std.specs.Option.{option_map}
 use Rattle.std.specs.Cmp.Lexicographic.{nat_list_cmp_total}
 use Rattle.std.specs.FinMap.{get, insert, same_map}
@@ -8,7 +8,7 @@ use Rattle.nfs2_types.specs.declared.fattr.Kind.TheVariants.{File, Dir, Link}
 use Rattle.server_trait.specs.Tree.{Tree, Node, ByBytes, Content, BytesOf, TextOf, NamesOf, Names, node_at, links, names_to, used, used_by, edited, with_bytes, with_node}
 use Rattle.server_trait.specs.declared.server.ServerLimits.{ServerLimits}
 use Rattle.server_trait.proofs.CountLaws.{links-edited}
-use Rattle.server_trait.proofs.TreeLaws.{some_none, bytes_or_not, get-insert_same, get-insert_other, edited-some, used-edited, some_and}
+use Rattle.server_trait.proofs.TreeLaws.{bytes_or_not, get-insert_same, get-insert_other, edited-some, used-edited, some_and}
 use Rattle.path_server.specs.Bytes.{Contents, bytes_under, content_of, rewritten}
 use Rattle.path_server.specs.Kept.{Kept, kept_as, node_of, full_node, nodes_of, the_tree}
 use Rattle.path_store.specs.Stored.{names_of}
@@ -18,7 +18,6 @@ use Rattle.path_store.proofs.Rows.{bytes_exact}
 use Rattle.path_server.proofs.ContentLaws.{file_content, bytes-insert_same, bytes-insert_other}
 use Rattle.path_server.proofs.ByteLaws.{length-rewritten}
 use Rattle.path_server.proofs.CountedLaws.{counted_same}
-use Rattle.path_server.proofs.NamedLaws.{beside_changed}
 use Rattle.path_server.proofs.NodeLaws.{get-nodes_of, node_at-kept, node_here}
 use Rattle.path_server.proofs.SoundLaws.{few_bytes}
 
@@ -117,12 +116,10 @@ module _ (k : Kept) (h : List ℕ) (p : PathNode) (is : get k.nodes h ≡ Some p
 
     pub sound_changed : (limits : ServerLimits) (next bytes bytes' : ℕ) → IsSound limits next bytes k →
         bytes' + length old_bytes ≡ bytes + length (f old_bytes) → bytes' ≤ limits.bytes →
-        ((q : List ℕ) → q ≢ h → get contents' q ≡ get k.contents q) → IsSound limits next bytes' after
-    sound_changed limits next bytes bytes' sound sum room stay = record {
+        IsSound limits next bytes' after
+    sound_changed limits next bytes bytes' sound sum room = record {
       serials = sound.serials;
       named = sound.named;
-      beside = beside_changed k.nodes k.nodes k.contents contents' h stay sound.beside (λ q _ none. none)
-          (λ none. absurd (some_none is none));
       counted = λ q x at. counted_same k after q x x refl (λ _. refl) (links_changed q) refl refl refl (sound.counted
           q x at);
       bytes_used =
@@ -136,41 +133,40 @@ module _ (k : Kept) (h : List ℕ) (p : PathNode) (is : get k.nodes h ≡ Some p
       nodes_most = sound.nodes_most;
     }
 
--- bytes that were taken out, changed and put back
+-- a file that was written over
 module _ (k : Kept) (h : List ℕ) (file : IsSomeAnd (get k.nodes h) (λ p. p.kind ≡ File)) (size offset : ℕ) (piece :
-    List ℕ) (fits : offset + length piece ≤ size)
-    (left contents' : Contents) (taken put : List ℕ) (took : taken ≡ bytes_under k.contents h) (leaves : left ≡
-    insert k.contents h []) (changes : put ≡ rewritten size offset piece taken)
-    (puts : contents' ≡ insert left h put) where
+    List ℕ) (fits : offset + length piece ≤ size) (nodes' : ByBytes PathNode) (same_nodes : nodes' ≡ k.nodes)
+    (contents' : Contents) (puts : contents' ≡ insert k.contents h (rewritten size offset piece
+    (bytes_under k.contents h))) where
   kept_file : (p : PathNode) × (get k.nodes h ≡ Some p) × (p.kind ≡ File)
   kept_file = some_and (get k.nodes h) (λ (p : PathNode). p.kind ≡ File) file
 
   here : bytes_under contents' h ≡ rewritten size offset piece (bytes_under k.contents h)
-  here = ap (λ m. bytes_under m h) puts ∙ bytes-insert_same left h put ∙ changes ∙ ap (rewritten size offset piece) took
+  here = ap (λ m. bytes_under m h) puts
+      ∙ bytes-insert_same k.contents h (rewritten size offset piece (bytes_under k.contents h))
 
   others : (q : List ℕ) → q ≢ h → bytes_under contents' q ≡ bytes_under k.contents q
-  others q ne = ap (λ m. bytes_under m q) puts ∙ bytes-insert_other left h put q ne
-      ∙ ap (λ m. bytes_under m q) leaves ∙ bytes-insert_other k.contents h [] q ne
+  others q ne = ap (λ m. bytes_under m q) puts
+      ∙ bytes-insert_other k.contents h (rewritten size offset piece (bytes_under k.contents h)) q ne
 
-  pub tree_rewritten : the_tree (kept_as k.root k.nodes contents' k.paths) ≡ edited (the_tree k) h (with_bytes
+  pub tree_rewritten : the_tree (kept_as k.root nodes' contents' k.paths) ≡ edited (the_tree k) h (with_bytes
       (rewritten size offset piece))
-  tree_rewritten = tree_changed k h kept_file.0 kept_file.1 kept_file.2 contents'
-      (rewritten size offset piece) here others
+  tree_rewritten = ap (λ m. the_tree (kept_as k.root m contents' k.paths)) same_nodes
+      ∙ tree_changed k h kept_file.0 kept_file.1 kept_file.2 contents' (rewritten size offset piece) here others
 
   module _ (limits : ServerLimits) (next bytes : ℕ) (sound : IsSound limits next bytes k) (len : ℕ) (is_len : len ≡
-      length taken) where
+      length (bytes_under k.contents h)) where
     pub few_taken : len ≤ bytes
     few_taken = let few = few_bytes limits next bytes k sound h kept_file.0 kept_file.1 kept_file.2 in
-        let same = ap length took in omega (arith, few, same, is_len)
+        omega (arith, few, is_len)
 
     pub sound_rewritten : (bytes - length (bytes_under k.contents h)) + size ≤ limits.bytes →
-        IsSound limits next ((bytes - len) + size) (kept_as k.root k.nodes contents' k.paths)
+        IsSound limits next ((bytes - len) + size) (kept_as k.root nodes' contents' k.paths)
     sound_rewritten room =
         let few = few_taken in
-        let same = ap length took in
         let whole = length-rewritten size offset piece (bytes_under k.contents h) fits in
-        sound_changed k h kept_file.0 kept_file.1 kept_file.2 contents' (rewritten size offset piece) here others
+        subst (λ (m : ByBytes PathNode). IsSound limits next ((bytes - len) + size) (kept_as k.root m contents' k.paths))
+        (sym same_nodes)
+        (sound_changed k h kept_file.0 kept_file.1 kept_file.2 contents' (rewritten size offset piece) here others
         limits next bytes ((bytes - len) + size) sound
-        (omega (arith, few, same, is_len, whole)) (omega (arith, room, same, is_len))
-        (λ q ne. ap (λ m. get m q) puts ∙ get-insert_other left h put q ne ∙ ap (λ m. get m q) leaves
-        ∙ get-insert_other k.contents h [] q ne)
+        (omega (arith, few, is_len, whole)) (omega (arith, room, is_len)))

@@ -19,7 +19,7 @@ use Rattle.path_server.specs.declared.node.PathNode.{PathNode}
 use Rattle.path_server.proofs.ContentLaws.{bare_content, names_to-new}
 use Rattle.path_server.proofs.CountChanges.{len-remove_old, links-without_node, unlinked}
 use Rattle.path_store.proofs.NameLaws.{get-names_of}
-use Rattle.path_server.proofs.NamedLaws.{IsDirNode, beside_changed, is_some_none, is_and_none}
+use Rattle.path_server.proofs.NamedLaws.{IsDirNode, is_some_none, is_and_none}
 use Rattle.path_server.proofs.NodeLaws.{len-nodes_of, get-nodes_of, node_at-kept, node_at-none, node_here, kind_at, same_dirs}
 use Rattle.path_server.proofs.Serials.{kept_fits}
 use Rattle.path_server.proofs.SoundLaws.{target_is}
@@ -145,14 +145,11 @@ module _ (limits : ServerLimits) (next bytes : ℕ) (k : Kept) (sound : IsSound 
   pub lost_used : used_by lost ≤ bytes
   lost_used = let all = sound.bytes_used in let change = used_gone in omega (arith, all, change)
 
-  pub sound_gone : get contents' h ≡ None → ((q : List ℕ) → q ≢ h → get contents' q ≡ get k.contents q) →
-      IsSound limits next (bytes - used_by lost) after
-  sound_gone bytes_gone bytes_stay = record {
+  pub sound_gone : IsSound limits next (bytes - used_by lost) after
+  sound_gone = record {
     serials = λ q y is. sound.serials q y (sym (others q (apart q y is)) ∙ is);
     named = named_gone;
     counted = counted_gone;
-    beside = beside_changed k.nodes nodes' k.contents contents' h bytes_stay sound.beside
-        (λ q ne none. sym (others q ne) ∙ none) (λ _. bytes_gone);
     bytes_used = let all = sound.bytes_used in let change = used_gone in omega (arith, all, change);
     bytes_most = let most = sound.bytes_most in omega (arith, most);
     nodes_most = let fewer = len_gone in let most = sound.nodes_most in omega (arith, fewer, most);

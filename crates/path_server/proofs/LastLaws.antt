@@ -142,9 +142,7 @@ module _ (limits : ServerLimits) (next bytes : ℕ) (k : Kept) (sound : IsSound 
           (subst (λ b. IsSound limits next b (kept_as k.root nodes' contents' paths_less)) fewer
           (gone_laws.sound_gone limits next (bytes - 512) kept_less sound_less h (one_link_less x) at_less no_links
           (λ _.
-          bare_less) nodes' gone others contents' same_bytes
-          (ap (λ m. get m h) is_contents ∙ get-remove_same k.contents h)
-          (λ q ne. ap (λ m. get m q) is_contents ∙ get-remove_other k.contents h q ne)))
+          bare_less) nodes' gone others contents' same_bytes))
 
       pub stored_last : IsStored k.nodes store → IsStored nodes' store'
       stored_last stored = gone_laws.stored_gone limits next (bytes - 512) kept_less sound_less h

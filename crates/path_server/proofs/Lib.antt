@@ -2,10 +2,10 @@ pub mod BelowLaws
 pub mod ByteLaws
 pub mod CallLaws
 pub mod ChangeLaws
+pub mod ComeLaws
 pub mod ContentLaws
 pub mod CountChanges
 pub mod CountedLaws
-pub mod DirLaws
 pub mod DropLaws
 pub mod FileCallLaws
 pub mod FileLaws
@@ -13,12 +13,10 @@ pub mod GoneLaws
 pub mod LastLaws
 pub mod LinkLaws
 pub mod MakeLaws
-pub mod MovedRows
 pub mod NameCallLaws
 pub mod NamedLaws
 pub mod NamesWithout
 pub mod NodeLaws
-pub mod NodeRows
 pub mod RebootLaws
 pub mod Recounted
 pub mod RekeyLaws
@@ -28,6 +26,7 @@ pub mod Serials
 pub mod ShownCalls
 pub mod ShownErrors
 pub mod ShownLaws
+pub mod SlotLaws
 pub mod SoundLaws
 pub mod StartLaws
 pub mod StoredLaws

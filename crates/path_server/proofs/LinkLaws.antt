@@ -11,7 +11,7 @@ use Rattle.server_trait.specs.declared.server.ServerLimits.{ServerLimits}
 use Rattle.server_trait.proofs.CountLaws.{links-named, subdirs-same, subdirs-insert_new}
 use Rattle.server_trait.proofs.TreeLaws.{some_same, is_some_and, bytes_or_not, get-insert_same, get-insert_other}
 use Rattle.path_store.specs.Stored.{Paths, Stored, names_of, with_name}
-use Rattle.path_server.specs.Bytes.{bytes_under}
+use Rattle.path_server.specs.Bytes.{Contents, bytes_under}
 use Rattle.path_server.specs.Kept.{Kept, kept_as, the_tree}
 use Rattle.path_server.specs.Nodes.{is_dir, one_more, one_link_more}
 use Rattle.path_server.specs.Sound.{IsSound, IsStored, IsCounted, AreNamed}
@@ -19,7 +19,7 @@ use Rattle.path_server.specs.declared.node.PathNode.{PathNode}
 use Rattle.path_server.proofs.ContentLaws.{dir_content}
 use Rattle.path_server.proofs.CountChanges.{len-insert_new, used-named}
 use Rattle.path_store.proofs.NameLaws.{start_of, get-names_of, names_of-insert_same, names_of-insert_other}
-use Rattle.path_server.proofs.NamedLaws.{IsDirNode, beside_grown, some_is}
+use Rattle.path_server.proofs.NamedLaws.{IsDirNode, some_is}
 use Rattle.path_server.proofs.NodeLaws.{node_at-kept, node_here, kind_at, is_dir_kind, is_dir_at-kind, same_dirs}
 use Rattle.path_server.proofs.Recounted as recount
 use Rattle.path_server.proofs.Serials.{kept_fits}
@@ -179,7 +179,6 @@ module _ (limits : ServerLimits) (next bytes : ℕ) (k : Kept) (sound : IsSound 
   sound_more room = record {
     serials = recount.serials_after k nodes' paths_more counts alike are next sound.serials;
     named = named_more;
-    beside = beside_grown k.nodes nodes' k.contents (recount.grows k nodes' paths_more counts alike are) sound.beside;
     counted = recount.each_after k nodes' paths_more counts alike are (IsCounted after) counted_more;
     bytes_used = let all = sound.bytes_used in let change = used_more in omega (arith, all, change);
     bytes_most = room;
@@ -216,6 +215,7 @@ module _ (limits : ServerLimits) (next bytes : ℕ) (k : Kept) (sound : IsSound 
     (h : List ℕ) (x : PathNode) (at_h : get k.nodes h ≡ Some x) (other : x.kind ≢ Dir)
     (nodes' : ByBytes PathNode)
     (is_nodes : nodes' ≡ insert (insert k.nodes dir (one_more x.kind p)) h (one_link_more x))
+    (contents' : Contents) (is_contents : contents' ≡ k.contents)
     (store store' : Stored) (is_paths : k.paths ≡ store.names) (is_store : store' ≡ with_name store dir name h) where
   not_one : h ≢ dir
   not_one same = other (ap (λ (p : PathNode). p.kind) (some_same at_h (ap (get k.nodes) same ∙ is)) ∙ is_directory)
@@ -224,27 +224,25 @@ module _ (limits : ServerLimits) (next bytes : ℕ) (k : Kept) (sound : IsSound 
   are_linked q = ap (λ m. get m q) is_nodes ∙ recount.two_puts k.nodes dir h p (one_more x.kind p) x (one_link_more x)
       (more_if x.kind) is at_h not_one refl refl (λ y. refl) q
 
-  abbrev linked : Kept
-  linked = kept_as k.root nodes' k.contents store'.names
+  kept_linked : kept_as k.root nodes' contents' store'.names
+      ≡ kept_as k.root nodes' k.contents (insert k.paths (dir ++ name) h)
+  kept_linked = ap (λ c. kept_as k.root nodes' c store'.names) is_contents
+      ∙ ap (λ (s : Stored). kept_as k.root nodes' k.contents s.names) is_store
+      ∙ ap (λ m. kept_as k.root nodes' k.contents (insert m (dir ++ name) h)) (sym is_paths)
 
-  names_linked : store'.names ≡ insert k.paths (dir ++ name) h
-  names_linked = ap (λ (s : Stored). s.names) is_store ∙ ap (λ m. insert m (dir ++ name) h) (sym is_paths)
+  pub tree_linked : the_tree (kept_as k.root nodes' contents' store'.names) ≡ named (the_tree k) dir name h
+  tree_linked = ap the_tree kept_linked
+      ∙ tree_more limits next bytes k sound dir name p is is_directory new_name h x at_h nodes' are_linked
 
-  pub tree_linked : the_tree linked ≡ named (the_tree k) dir name h
-  tree_linked = ap (λ m. the_tree (kept_as k.root nodes' k.contents m)) names_linked
-      ∙ tree_more limits next bytes k sound
-      dir name p is is_directory new_name h x at_h nodes' are_linked
-
-  pub sound_linked : bytes + 512 ≤ limits.bytes → IsSound limits next (bytes + 512) linked
-  sound_linked room = subst (λ m. IsSound limits next (bytes + 512) (kept_as k.root nodes' k.contents m)) (sym
-      names_linked) (sound_more limits next bytes k sound dir name p is is_directory new_name h x at_h nodes' are_linked
-      room)
+  pub sound_linked : bytes + 512 ≤ limits.bytes →
+      IsSound limits next (bytes + 512) (kept_as k.root nodes' contents' store'.names)
+  sound_linked room = subst (IsSound limits next (bytes + 512)) (sym kept_linked)
+      (sound_more limits next bytes k sound dir name p is is_directory new_name h x at_h nodes' are_linked room)
 
   pub stored_linked : IsStored k.nodes store → IsStored nodes' store'
   stored_linked stored = stored_more limits next bytes k sound dir name p is is_directory new_name h x at_h nodes'
       are_linked store store' stored (ap (λ (s : Stored). s.whole) is_store ∙ stored.whole) (λ q.
       let same = ap (λ (s : Stored). is_some (get s.dirs q)) is_store in (
         λ there. sym same ∙ there,
-        λ there.
-            same ∙ there,
+        λ there. same ∙ there,
       )) (λ is_dir. absurd (other is_dir))

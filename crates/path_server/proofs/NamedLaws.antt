@@ -1,15 +1,14 @@
 -- Names, of directories and to nodes that are kept.
 use Rattle.std.proofs.Common.{inl, inr, ◌⊎◌, ◌≡◌, ◌≢◌, ℕ, true, false, List, ◌++◌, length, Option, Some, None, IsSome, IsSomeAnd, is_some, refl, sym, ap, ◌∙◌, subst}
 use Rattle.std.specs.Option.{option_map}
-use Rattle.std.specs.FinMap.{get}
+use Rattle.std.specs.FinMap.{get, insert}
 use Rattle.nfs2_types.specs.declared.fattr.Kind.{Kind}
 use Rattle.nfs2_types.specs.declared.fattr.Kind.TheVariants.{File, Dir, Link}
 use Rattle.server_trait.specs.Tree.{ByBytes}
 use Rattle.server_trait.proofs.TreeLaws.{bytes_or_not, some_and, some_none, some_same, is_some_and, get-insert_same, get-insert_other}
 use Rattle.server_trait.proofs.SoftLaws.{some_of}
 use Rattle.path_store.specs.Stored.{Paths, Stored, IsDir, AddsDir, joined, with_name}
-use Rattle.path_server.specs.Bytes.{Contents}
-use Rattle.path_server.specs.Sound.{AreNamed, NothingBeside, IsStored, AddsNode}
+use Rattle.path_server.specs.Sound.{AreNamed, IsStored, AddsNode}
 use Rattle.path_server.specs.declared.node.PathNode.{PathNode}
 use Rattle.path_store.proofs.NameLaws.{start_of}
 
@@ -25,6 +24,15 @@ none_of (Some x) h = absurd (h x refl)
 
 pub some_is : {A : Type 0} {o : Option A} {x : A} → o ≡ Some x → IsSome o
 some_is e = ap is_some e
+
+-- what was there is there after a change of one
+pub grown : {X : Type 0} (m n : ByBytes X) (k q : List ℕ) (v : X) {w : X} → n ≡ insert m k v → get m q ≡ Some w →
+    IsSome (get n q)
+grown m n k q v is at = ap is_some (ap (λ n. get n q) is) ∙ (elim (bytes_or_not q k) as
+    (λ _. IsSome (get (insert m k v) q)) [
+      | inl same ↦ some_is (ap (get (insert m k v)) same ∙ get-insert_same m k v)
+      | inr ne ↦ some_is (get-insert_other m k v q ne ∙ at)
+    ])
 
 -- it is a directory
 abbrev pub IsDirNode : PathNode → Type 0
@@ -50,33 +58,6 @@ module _ (nodes : ByBytes PathNode) (paths : Paths) (named : AreNamed nodes path
   -- no name leads to what is not kept
   pub unkept_unnamed : (h : List ℕ) → get nodes h ≡ None → (key : List ℕ) → get paths key ≡ Some h → ⊥
   unkept_unnamed h none key at = is_some_none (named key h at).1 none
-
--- WHAT IS BESIDE THE TREE
-
--- what is no node among more was none among fewer
-pub none_before : (nodes nodes' : ByBytes PathNode) → ((q : List ℕ) → IsSome (get nodes q) → IsSome (get nodes' q)) →
-    (q : List ℕ) → get nodes' q ≡ None → get nodes q ≡ None
-none_before nodes nodes' grows q none = elim (get nodes q) as (λ o. get nodes q ≡ o → o ≡ None) [
-  | None ↦ λ _. refl
-  | Some p ↦ λ is. absurd (is_some_none (grows q (ap is_some is)) none)
-] refl
-
--- where there are more nodes, nothing more is beside them
-pub beside_grown : (nodes nodes' : ByBytes PathNode) (contents : Contents) →
-    ((q : List ℕ) → IsSome (get nodes q) → IsSome (get nodes' q)) → NothingBeside nodes contents →
-    NothingBeside nodes' contents
-beside_grown nodes nodes' contents grows beside q none = beside q (none_before nodes nodes' grows q none)
-
--- where the bytes of one node are others, nothing more is beside the nodes
-pub beside_changed : (nodes nodes' : ByBytes PathNode) (contents contents' : Contents) (h : List ℕ) →
-    ((q : List ℕ) → q ≢ h → get contents' q ≡ get contents q) → NothingBeside nodes contents →
-    ((q : List ℕ) → q ≢ h → get nodes' q ≡ None → get nodes q ≡ None) → (get nodes' h ≡ None → get contents' h ≡ None) →
-    NothingBeside nodes' contents'
-beside_changed nodes nodes' contents contents' h others beside lacks here q none =
-    elim (bytes_or_not q h) as (λ _. get contents' q ≡ None) [
-      | inl same ↦ ap (get contents') same ∙ here (sym (ap (get nodes') same) ∙ none)
-      | inr ne ↦ others q ne ∙ beside q (lacks q ne none)
-    ]
 
 -- THE STORE
 

@@ -4,8 +4,6 @@ use Rattle.std.specs.Prelude.{T}
 use Rattle.std.specs.declared.cmp.Ordering.{Ordering}
 use Rattle.std.specs.declared.cmp.Ordering.TheVariants.{Less, Equal, Greater}
 use Rattle.std.specs.Option.{option_map, option_and_then}
-use Rattle.std.specs.List.{AllByRecursion}
-use Rattle.std.specs.List.Sorted.{IsStrictlySortedBy}
 use Rattle.std.specs.Ordering.{nat_cmp, is_eq, is_lt}
 use Rattle.std.specs.Cmp.Lexicographic.{slice_cmp, nat_list_cmp_total}
 use Rattle.std.specs.FinMap.{FinMap, find, get, len, entries, from_entries, is_sorted, entries_sorted, get-entries, get-from_entries, len-entries, len-empty, len-insert}
@@ -35,10 +33,6 @@ less Less p = refl
 less Equal p = absurd p
 less Greater p = absurd p
 
-both_hold : (a b : Bool) → T a → T b → T (a && b)
-both_hold true b p q = q
-both_hold false b p q = absurd p
-
 module _ {A B : Type 0} (f : List ℕ → A → B) where
   find_below : (x : List ℕ) (es : List (List ℕ × A)) → T (below_all (slice_cmp nat_cmp) x es) →
       find (slice_cmp nat_cmp) x (map (λ e. (e.0, f e.0 e.1)) es) ≡ None
@@ -59,7 +53,7 @@ module _ {A B : Type 0} (f : List ℕ → A → B) where
       ∙ find_below e.0 es (both_first _ (is_sorted (slice_cmp nat_cmp) es) h))
       ∙ ap (λ n. n + 1) (len-mapped es (both_second (below_all (slice_cmp nat_cmp) e.0 es) _ h)) ∙ add-one _
 
-  find-mapped : (es : List (List ℕ × A)) (h : List ℕ) → find (slice_cmp nat_cmp) h (map (λ e. (
+  pub find-mapped : (es : List (List ℕ × A)) (h : List ℕ) → find (slice_cmp nat_cmp) h (map (λ e. (
     e.0,
     f e.0 e.1,
   )) es) ≡ option_map (f h) (find (slice_cmp nat_cmp) h es)
@@ -80,33 +74,6 @@ pub len-nodes_of : (nodes : ByBytes PathNode) (contents : Contents) (paths : Pat
 unfolding nodes_of
 len-nodes_of nodes contents paths = len-mapped (full_node contents paths) (entries nodes) (entries_sorted nodes)
     ∙ sym (len-entries nodes)
-
-module _ {A : Type 0} where
-  all_below : (x : List ℕ) (es : List (List ℕ × A)) → AllByRecursion (λ y. slice_cmp nat_cmp x y ≡ Less)
-      (map (λ e. e.0) es) → T (below_all (slice_cmp nat_cmp) x es)
-  all_below x [] h = tt
-  all_below x (e ∷ es) h = both_hold _ _ (is_less _ h.0) (all_below x es h.1)
-    where
-      is_less : (r : Ordering) → r ≡ Less → T (is_lt r)
-      is_less Less e = tt
-      is_less Equal e = cc
-      is_less Greater e = cc
-
-  sorted_rows : (es : List (List ℕ × A)) → IsStrictlySortedBy (slice_cmp nat_cmp) (map (λ e. e.0) es) →
-      T (is_sorted (slice_cmp nat_cmp) es)
-  unfolding IsStrictlySortedBy
-  sorted_rows [] h = tt
-  sorted_rows (e ∷ es) h = both_hold _ _ (all_below e.0 es h.0) (sorted_rows es h.1)
-
-  rows_same : (es : List (List ℕ × A)) → map (λ e. (e.0, e.1)) es ≡ es
-  rows_same [] = refl
-  rows_same (e ∷ es) = ap (λ l. e ∷ l) (rows_same es)
-
-  -- a map has as many rows as its view
-  pub len-rows : (es : List (List ℕ × A)) → IsStrictlySortedBy (slice_cmp nat_cmp) (map (λ e. e.0) es) →
-      len (from_entries {R = slice_cmp nat_cmp} es) ≡ length es
-  len-rows es h = ap (λ l. len (from_entries {R = slice_cmp nat_cmp} l)) (sym (rows_same es))
-      ∙ len-mapped (λ _ v. v) es (sorted_rows es h)
 
 -- WHICH
 

@@ -1,21 +1,21 @@
 -- After another start the tree is the same under other handles.
-use Rattle.std.proofs.Common.{◌≡◌, ◌≢◌, ℕ, ◌+◌, ◌≤◌, ◌<◌, ◌^◌, Bool, true, List, ◌++◌, take, replicate, Option, Some, None, is_some, IfSome, IsSome, IsSomeAnd, Result, Ok, refl, sym, ap, ◌∙◌, subst, arith, take_at}
+use Rattle.std.proofs.Common.{◌≡◌, ◌≢◌, ℕ, ◌≤◌, ◌<◌, ◌^◌, Bool, true, List, ◌++◌, take, replicate, Option, Some, None, is_some, IfSome, IsSome, IsSomeAnd, Result, Ok, refl, sym, ap, ◌∙◌, subst, take_at}
 use Rattle.std.specs.Prelude.{max}
 use Rattle.std.specs.Option.{option_map}
 use Rattle.std.specs.Int.{w64, to_be_bytes}
 use Rattle.std.specs.FinMap.{get, len}
-use Rattle.server_trait.specs.Tree.{Tree, Node, Names, Content, BytesOf, TextOf, NamesOf, Server, node_at, names_in, used}
-use Rattle.server_trait.specs.Step.{HasTree, OnlySoft, Called}
+use Rattle.server_trait.specs.Tree.{Tree, Node, Content, BytesOf, TextOf, NamesOf, Server, node_at, used}
+use Rattle.server_trait.specs.Step.{HasTree, OnlySoft}
 use Rattle.server_trait.specs.Calls.{IsMovedContent, IsMovedNode, IsMovedTree, Rebooted, Reboot}
 use Rattle.server_trait.specs.declared.server.SrvErr.{SrvErr}
 use Rattle.server_trait.specs.declared.server.ServerLimits.{ServerLimits}
-use Rattle.server_trait.proofs.TreeLaws.{is_some_and, some_none}
+use Rattle.server_trait.proofs.TreeLaws.{is_some_and}
 use Rattle.server_trait.proofs.SoftLaws.{some_of}
 use Rattle.path_server.specs.Kept.{Kept, the_tree, tree_of}
+use Rattle.path_store.specs.Tables.{place_of}
 use Rattle.path_server.specs.Serials.{serial_bytes}
-use Rattle.path_server.specs.Shown.{shown_at, shown_names, shown_content, shown_node, shown_tree, shown_server, NoneStays}
+use Rattle.path_server.specs.Shown.{shown_at, shown_content, shown_node, shown_tree, shown_server, NoneStays}
 use Rattle.path_server.specs.Sound.{IsSound}
-use Rattle.path_server.specs.State.{IsWithin}
 use Rattle.path_server.proofs.CallLaws.{held_tree}
 use Rattle.path_server.proofs.NodeLaws.{kept-node_at}
 use Rattle.path_server.proofs.ShownCalls.{mapped_some}
@@ -114,16 +114,16 @@ still_there old new r x there c is =
 abbrev BeginInside : Tree → Type 0
 BeginInside t = (h : List ℕ) → IsSome (node_at t h) → (r : List ℕ) × (h ≡ replicate 8 0 ++ r)
 
-serial_inside : (n : ℕ) → (r : List ℕ) × (serial_bytes n ≡ replicate 8 0 ++ r)
+serial_inside : (n place : ℕ) → (r : List ℕ) × (serial_bytes n place ≡ replicate 8 0 ++ r)
 unfolding serial_bytes
-serial_inside n = (to_be_bytes w64 n ++ replicate 16 0, refl)
+serial_inside n place = (to_be_bytes w64 n ++ (to_be_bytes w64 place ++ replicate 8 0), refl)
 
 begin_inside : (limits : ServerLimits) (next bytes : ℕ) (k : Kept) → IsSound limits next bytes k →
     BeginInside (the_tree k)
 begin_inside limits next bytes k sound h some =
     let n = some_of (node_at (the_tree k) h) some in
     let p = kept-node_at k h n.0 n.1 in
-    let r = serial_inside p.0.number in
+    let r = serial_inside p.0.number (place_of h) in
     (r.0, (sound.serials h p.0 p.1).0 ∙ r.1)
 
 none_stays : (a b : ℕ) → a < 2 ^ 64 → b < 2 ^ 64 → a ≢ b → (t : Tree) → BeginInside t → (h : List ℕ) →

@@ -12,8 +12,9 @@ use Rattle.server_trait.proofs.TreeLaws.{some_none, bytes_or_not, edited-some, r
 use Rattle.path_store.specs.Stored.{Paths, names_of}
 use Rattle.path_server.specs.Bytes.{bytes_under}
 use Rattle.path_server.specs.Kept.{Kept, kept_as, node_of, full_node, the_tree}
+use Rattle.path_store.specs.Tables.{place_of}
 use Rattle.path_server.specs.Serials.{serial_bytes}
-use Rattle.path_server.specs.Sound.{AreSerials}
+use Rattle.path_server.specs.Sound.{IsSerial, AreSerials}
 use Rattle.path_server.specs.declared.node.PathNode.{PathNode}
 use Rattle.path_server.proofs.ContentLaws.{fuller_content}
 use Rattle.path_server.proofs.CountChanges.{len-insert_old}
@@ -67,6 +68,12 @@ two_puts nodes d h p p' x x' f at_d at_h ne is_p is_x is_y q =
     stays None = refl
     stays (Some y) = ap Some (is_y y)
 
+-- a node put in after another
+pub two_sets : {X : Type 0} (nodes : ByBytes X) (h k : List ℕ) {one two : ByBytes X} {v v' w w' : X} →
+    one ≡ insert nodes h v → two ≡ insert one k w → v ≡ v' → w ≡ w' → two ≡ insert (insert nodes h v') k w'
+two_sets nodes h k {v' = v'} {w = w} first second is_v is_w = second
+    ∙ ap (λ m. insert m k w) (first ∙ ap (insert nodes h) is_v) ∙ ap (insert (insert nodes h v') k) is_w
+
 -- ALL NODES
 
 -- the same node, but for its counts
@@ -119,10 +126,8 @@ module _ (k : Kept) (nodes' : ByBytes PathNode) (paths' : Paths) (f : List ℕ �
   grows q there = let p = some_of (get k.nodes q) there in some_is (kept_after q p.0 p.1)
 
   pub serials_after : (next : ℕ) → AreSerials k.nodes next → AreSerials nodes' next
-  serials_after next serials = each_after (λ q x. (q ≡ serial_bytes x.number) × (x.number < next)) (λ q p is.
-      let s = serials q p is in
-      let same = (alike q p).number in
-      (s.0 ∙ ap serial_bytes (sym same), subst (λ n. n < next) (sym same) s.1))
+  serials_after next serials = each_after (IsSerial next) (λ q p is. subst (λ n. (q ≡ serial_bytes n (place_of q))
+      × (n < next)) (sym (alike q p).number) (serials q p is))
 
   -- THE TREE
 

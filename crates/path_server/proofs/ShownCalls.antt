@@ -1,13 +1,13 @@
 -- Each call does under the handles that are shown what it does inside.
-use Rattle.std.proofs.Common.{◌≡◌, ◌≢◌, ℕ, ◌≤◌, List, [], length, take, drop, Bool, true, false, Option, Some, None, Result, Ok, Err, IsSome, IsSomeAnd, slice_get, refl, sym, ap, ◌∙◌, subst}
+use Rattle.std.proofs.Common.{◌≡◌, ℕ, List, length, take, drop, Option, Some, None, Result, Ok, Err, IsSomeAnd, slice_get, refl, sym, ap, ◌∙◌, subst}
 use Rattle.std.specs.Prelude.{Vec}
 use Rattle.std.specs.Option.{option_map}
 use Rattle.std.specs.declared.alloc.Global.{Global}
 use Rattle.std.specs.FinMap.{get, insert, empty}
 use Rattle.nfs2_types.specs.Bytes.{resized, overwritten}
-use Rattle.server_trait.specs.Tree.{Tree, Node, Names, Content, BytesOf, TextOf, NamesOf, Server, node_at, names_at, bytes_at, text_at, target, bytes_in, text_in, new_node, with_attr, with_bytes, with_node, edited, named, unnamed, let_go}
-use Rattle.server_trait.specs.Step.{Counts, Outcome, OnlySoft, Called}
-use Rattle.server_trait.specs.Calls.{NodeErr, ContentErr, WriteErr, SetSizeErr, DirErr, LookupErr, MakeErr, LinkErr, RemoveErr, RmdirErr, RenameErr, IsAttr, Attr, SetAttr, Read, ReadLink, Wrote, Write, SetSize, Lookup, Lists, ListNames, IsNewNumber, Made, Make, Link, Removed, Remove, Rmdir, renamed, Rename, RootIs, IsFresh, WipeOutcome, Wipe}
+use Rattle.server_trait.specs.Tree.{Tree, Node, Names, Content, NamesOf, Server, node_at, names_at, bytes_at, text_at, target, bytes_in, text_in, new_node, with_attr, with_bytes, with_node, edited, named, unnamed, let_go}
+use Rattle.server_trait.specs.Step.{Counts, Outcome, Called}
+use Rattle.server_trait.specs.Calls.{NodeErr, ContentErr, WriteErr, SetSizeErr, DirErr, LookupErr, MakeErr, LinkErr, RemoveErr, RmdirErr, RenameErr, IsAttr, Attr, SetAttr, Read, ReadLink, Wrote, Write, SetSize, Lookup, Lists, ListNames, IsNewNumber, Made, Make, Link, Removed, Remove, Rmdir, renamed, Rename, IsFresh, WipeOutcome, Wipe}
 use Rattle.server_trait.specs.declared.server.SrvErr.{SrvErr}
 use Rattle.server_trait.specs.declared.server.SrvErr.TheVariants.{Fault, NoMemory}
 use Rattle.server_trait.specs.declared.server.NodeAttr.{NodeAttr}
@@ -16,7 +16,7 @@ use Rattle.server_trait.proofs.TreeLaws.{some_and, is_some_and}
 use Rattle.path_server.specs.Shown.{shown_names, shown_content, shown_node, shown_tree, shown_server}
 use Rattle.path_server.proofs.RekeyLaws.{rekeyed-insert, rekeyed-empty}
 use Rattle.path_server.proofs.ShownErrors.{Alike, node_err, read_err, read_link_err, write_err, set_size_err, dir_err, lookup_err, make_err, link_err, remove_err, rmdir_err, rename_err, target_at}
-use Rattle.path_server.proofs.ShownLaws.{get-shown_names, node_at-shown, node_at-any, names_at-shown, bytes_at-shown, text_at-shown, target-shown, kind_of-shown, size_of-shown, links_of-shown, edited-shown, with_bytes-shown, with_node-shown, named-shown, removed-shown, renamed-shown}
+use Rattle.path_server.proofs.ShownLaws.{get-shown_names, node_at-shown, node_at-any, names_at-shown, bytes_at-shown, text_at-shown, kind_of-shown, size_of-shown, links_of-shown, edited-shown, with_bytes-shown, with_node-shown, named-shown, removed-shown, renamed-shown}
 
 -- what a mapped value comes from
 pub mapped_some : {A B : Type 0} (f : A → B) (o : Option A) (y : B) → option_map f o ≡ Some y →
@@ -310,10 +310,6 @@ module _ (shown : List ℕ → List ℕ) (twice : (h : List ℕ) → shown (show
           )) c
 
     -- THE WHOLE SERVER
-
-    pub root_seen : (h : List ℕ) → RootIs old h → RootIs (out old) (shown h)
-    root_seen h is u at =
-        let t = mapped_some over old.tree u at in ap shown (is t.0 t.1) ∙ ap (λ (t : Tree). t.root) t.2
 
     pub fresh_seen : (n : Option Tree) → IsFresh n → IsFresh (option_map over n)
     fresh_seen n f = record {

@@ -1,14 +1,14 @@
 -- The tree under the handles that are shown: what is in it, what it counts, and how it changes.
-use Rattle.std.proofs.Common.{◌≡◌, ℕ, ◌+◌, ◌*◌, Bool, true, false, List, Option, Some, None, refl, sym, ap, ◌∙◌}
+use Rattle.std.proofs.Common.{◌≡◌, ℕ, ◌*◌, Bool, true, false, List, Option, Some, None, refl, sym, ap, ◌∙◌}
 use Rattle.std.specs.Prelude.{bytes_eq, ◌==◌, if◌then◌else◌}
 use Rattle.std.specs.Option.{option_map, option_and_then}
 use Rattle.std.specs.FinMap.{get, insert, remove, len}
-use Rattle.server_trait.specs.Tree.{Tree, Node, Names, Content, BytesOf, TextOf, NamesOf, node_at, names_at, bytes_at, text_at, target, bytes_in, text_in, names_in, kind_of, size_of, links_of, links, names_to, subdirs, is_dir_at, one_if, used, used_by, with_attr, with_bytes, with_names, with_node, without_node, edited, named, unnamed, let_go}
+use Rattle.server_trait.specs.Tree.{Tree, Node, Names, Content, BytesOf, TextOf, NamesOf, node_at, names_at, bytes_at, text_at, target, bytes_in, text_in, names_in, kind_of, size_of, links_of, links, names_to, subdirs, is_dir_at, one_if, used, used_by, with_bytes, with_names, with_node, without_node, edited, named, unnamed, let_go}
 use Rattle.server_trait.specs.Calls.{renamed}
 use Rattle.server_trait.specs.declared.server.TheConstants.{NAME_BYTES}
 use Rattle.server_trait.proofs.CountLaws.{total-same}
 use Rattle.server_trait.proofs.TreeLaws.{edited-some, edited-none}
-use Rattle.path_server.specs.Shown.{rekeyed, shown_names, shown_content, shown_node, shown_tree}
+use Rattle.path_server.specs.Shown.{shown_names, shown_content, shown_node, shown_tree}
 use Rattle.path_server.proofs.RekeyLaws.{bytes_eq-key, get-rekeyed, get-rekeyed_at, rekeyed-insert, rekeyed-remove, total-rekeyed, len-rekeyed}
 
 -- what a name that moves leaves, where the other name leads here

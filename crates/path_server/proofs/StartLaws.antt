@@ -1,5 +1,5 @@
 -- The handles that are shown after so many starts.
-use Rattle.std.proofs.Common.{◌⊎◌, inl, inr, ◌≡◌, ◌≢◌, ℕ, ◌+◌, ◌<◌, ◌^◌, Bool, true, false, List, ◌++◌, length, take, drop, replicate, Option, Some, None, IsSome, option_map, if◌then◌else◌, bytes_eq, refl, sym, ap, ◌∙◌, subst, arith, take_at, drop_at, take-append-drop}
+use Rattle.std.proofs.Common.{inl, inr, ◌≡◌, ◌≢◌, ℕ, ◌<◌, ◌^◌, Bool, true, false, List, ◌++◌, length, take, drop, replicate, if◌then◌else◌, bytes_eq, refl, sym, ap, ◌∙◌, take_at, drop_at, take-append-drop}
 use Rattle.std.specs.Int.{w64, to_be_bytes, from_be_bytes}
 use Rattle.std.proofs.lemmas.Nat.{from_be_bytes-to_be_bytes_8}
 use Rattle.std.proofs.lemmas.Slice.Eq.{bytes_eq-Decides}

@@ -1,7 +1,7 @@
--- Handles that are serial numbers.
+-- Handles that carry a serial number and a place.
 use Rattle.std.specs.Prelude.{ℕ, List, ◌++◌, replicate}
 use Rattle.std.specs.Int.{w64, to_be_bytes}
 
--- the handle of a serial number inside
-unfoldable pub serial_bytes : ℕ → List ℕ
-serial_bytes n = replicate 8 0 ++ (to_be_bytes w64 n ++ replicate 16 0)
+-- the handle inside of a serial number at a place: zeros, and the eight bytes of each
+unfoldable pub serial_bytes : ℕ → ℕ → List ℕ
+serial_bytes n place = replicate 8 0 ++ (to_be_bytes w64 n ++ (to_be_bytes w64 place ++ replicate 8 0))

@@ -4,6 +4,7 @@
 mod contents;
 mod laws;
 mod node;
+mod nodes;
 mod rows;
 mod server;
 mod tree;

@@ -109,13 +109,14 @@ impl PathNode {
     }
 }
 
-/// The handle of a serial number inside: zeros, its eight bytes, the most significant first, and zeros.
+/// The handle inside of a serial number at a place: zeros, and the eight bytes of each, the most significant first.
 #[tactic(auto, unfolding(crate::specs::Serials::serial_bytes))]
-pub fn handle_of(serial: u64) -> Handle
-    ensures { result ≡ serial_bytes serial }
+pub fn handle_of(serial: u64, place: usize) -> Handle
+    ensures { result ≡ serial_bytes serial place }
 {
     let mut handle = [0; 32];
     handle[8..16].copy_from_slice(&serial.to_be_bytes());
+    handle[16..24].copy_from_slice(&(place as u64).to_be_bytes());
     handle
 }
 

@@ -1,6 +1,7 @@
 //! A boxed server, through tables of calls.
 
 mod case;
+mod many;
 mod renames;
 
 use case::{Case, odd_one};
@@ -218,7 +219,10 @@ fn names_removed(rt: HostRuntime) -> Result<(), Fail> {
         Case::Attr(2, Err("stale")),
         Case::Lookup(1, b"usr", Err("no entry")),
         Case::Attr(1, Ok((Kind::Dir, 0, 0, 0, 0, 0))),
-        Case::Mkdir(1, b"usr", Ok(5)),
+        // The place of what went is taken again, and its handle stays stale.
+        Case::Mkdir(1, b"usr", Ok(205)),
+        Case::Attr(2, Err("stale")),
+        Case::Attr(205, Ok((Kind::Dir, 0, 0, 0, 0, 0))),
     ];
     assert_eq!(rt; odd_one(rt.alloc(), ROOMY, &cases)?, None);
     Ok(())
@@ -239,10 +243,10 @@ fn room_given_back(rt: HostRuntime) -> Result<(), Fail> {
         Case::Link(2, 1, b"more", Ok(())),
         Case::Remove(1, b"file", Ok(())),
         Case::Remove(1, b"more", Ok(())),
-        Case::Mkdir(1, b"usr", Ok(3)),
-        Case::Symlink(1, b"link", b"abcdefghij", Ok(4)),
+        Case::Mkdir(1, b"usr", Ok(203)),
+        Case::Symlink(1, b"link", b"abcdefghij", Ok(304)),
         Case::Rmdir(1, b"usr", Ok(())),
-        Case::Create(1, b"file", Ok(5)),
+        Case::Create(1, b"file", Ok(205)),
     ];
     assert_eq!(rt; odd_one(rt.alloc(), limits, &cases)?, None);
     Ok(())

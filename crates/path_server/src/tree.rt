@@ -2,7 +2,7 @@
 
 ghost use Rattle.std.specs.Prelude.{◌≡◌, ◌≤◌, ◌+◌, ◌-◌, ◌++◌, ◌<◌, true, false, IfOk, OnOk, OnErr, Some, None, IsSomeAnd, length};
 ghost use Rattle.std.proofs.Props.{props};
-ghost use Rattle.std.specs.FinMap.{get, len, empty, from_entries};
+ghost use Rattle.std.specs.FinMap.{get, len, empty};
 ghost use Rattle.nfs2_types.specs.Names.{is_name};
 ghost use Rattle.nfs2_types.specs.declared.fattr.Kind.TheVariants.{File, Dir};
 ghost use Rattle.server_trait.specs.Tree.{used_by, size_of, links_of, edited, with_bytes};
@@ -11,15 +11,16 @@ ghost use Rattle.server_trait.specs.Calls.{IsFresh, Made, Make};
 ghost use Rattle.path_server.specs.Bytes.{bytes_under, content_of, rewritten};
 ghost use Rattle.path_server.specs.Kept.{IsFound, IsFoundDir, full_node, kept_as, the_tree};
 ghost use Rattle.path_server.specs.Sound.{IsSound, IsStored, AddsNode};
+ghost use Rattle.path_server.specs.Slots.{nodes_in, bytes_in};
 ghost use Rattle.path_store.specs.Stored.{IsDir, IsUnnamed};
+ghost use Rattle.path_store.specs.Tables.{HasRoom};
 
-use crate::contents::{PathContents, rewrite};
-use crate::node::{PathNode, handle_of};
+use crate::node::PathNode;
+use crate::nodes::NodeSlab;
 use nfs2_types::{Handle, Kind, NoMemory};
 use path_store::PathStore;
 use server_trait::{ServerLimits, SrvErr};
 use std::alloc::Global;
-use std::collections::BTreeMap;
 
 mod calls;
 mod names;
@@ -35,15 +36,14 @@ pub struct PathTree {
     root: Handle,
     next: u64,
     bytes: u64,
-    nodes: BTreeMap<Handle, PathNode>,
-    contents: PathContents,
+    nodes: NodeSlab,
     names: PathStore,
     ghost limited: { limits.bytes ≤ 1073741824 },
     ghost sound: { held ≡ true
         → IsSound limits next bytes
-        (kept_as root (from_entries nodes.entries) contents names.names) } by { Prim.hlevel props },
+        (kept_as root (nodes_in nodes) (bytes_in nodes) names.names) } by { Prim.hlevel props },
     ghost stored: { held ≡ true
-        → IsStored (from_entries nodes.entries) names } by { Prim.hlevel props },
+        → IsStored (nodes_in nodes) names } by { Prim.hlevel props },
 }
 
 impl PathTree {
@@ -65,8 +65,7 @@ impl PathTree {
             root,
             next: 0,
             bytes: 0,
-            nodes: BTreeMap::new(alloc),
-            contents: PathContents::new(alloc),
+            nodes: NodeSlab::new(alloc),
             names,
         };
         tree.start()?;
@@ -84,17 +83,10 @@ impl PathTree {
         let Some(next) = self.next.checked_add(1) else {
             return Err(NoMemory);
         };
-        self.root = handle_of(self.next);
-        let Ok(names) = PathStore::new(self.alloc, &self.root) else {
-            return Err(NoMemory);
-        };
-        self.names = names;
-        self.contents = PathContents::new(self.alloc);
-        self.nodes.clear();
+        self.nodes = NodeSlab::new(self.alloc);
         let root = PathNode::new(Kind::Dir, self.next, 0);
-        let Ok(_) = self.nodes.insert(self.root, root) else {
-            return Err(NoMemory);
-        };
+        self.root = self.nodes.insert(self.next, root, Vec::new(self.alloc))?;
+        self.names = PathStore::new(self.alloc, &self.root)?;
         self.next = next;
         self.bytes = 0;
         self.held = true;
@@ -105,7 +97,7 @@ impl PathTree {
     fn find(&self, node: &Handle, kind: Kind) -> Result<PathNode, SrvErr>
         ensures { IsFound (kept_by self.now).nodes node.now kind result }
     {
-        match self.nodes.get(node).copied() {
+        match self.nodes.get(node) {
             Some(kept) if kept.kind == kind => Ok(kept),
             Some(_) => Err(SrvErr::WrongKind),
             None => Err(SrvErr::Stale),
@@ -116,7 +108,7 @@ impl PathTree {
     fn find_dir(&self, dir: &Handle) -> Result<PathNode, SrvErr>
         ensures { IsFoundDir (kept_by self.now).nodes dir.now result }
     {
-        match self.nodes.get(dir).copied() {
+        match self.nodes.get(dir) {
             Some(kept) if kept.kind == Kind::Dir => Ok(kept),
             Some(_) => Err(SrvErr::NotDir),
             None => Err(SrvErr::Stale),
@@ -150,16 +142,11 @@ impl PathTree {
         let Some(next) = self.next.checked_add(1) else {
             return Err(NoMemory);
         };
-        let handle = handle_of(self.next);
-        add_new(&mut self.names, dir, name, &handle, kind)?;
-        self.contents.add(self.alloc, &handle, kind, bytes)?;
+        let copy = Vec::from_slice(self.alloc, bytes)?;
         let node = PathNode::new(kind, self.next, 1);
-        let Ok(_) = self.nodes.insert(handle, node) else {
-            return Err(NoMemory);
-        };
-        let Ok(_) = self.nodes.insert(*dir, kept.with_name(kind)) else {
-            return Err(NoMemory);
-        };
+        let handle = self.nodes.insert(self.next, node, copy)?;
+        add_new(&mut self.names, dir, name, &handle, kind)?;
+        self.nodes.set(dir, kept.with_name(kind));
         self.next = next;
         self.bytes += 512 + bytes.len() as u64;
         self.held = true;
@@ -232,7 +219,7 @@ impl PathTree {
         requires held { self.old.held ≡ true }
         requires file { IsSomeAnd (get (kept_by self.old).nodes file.now) (λ p. p.kind ≡ File) }
         requires end { offset + length piece.now ≤ size }
-        requires room { (self.old.bytes - length (bytes_under self.old.contents file.now)) + size
+        requires room { (self.old.bytes - length (bytes_under (kept_by self.old).contents file.now)) + size
             ≤ self.old.limits.bytes }
         ensures ok { OnOk result ((state_of self.new).tree
             ≡ Some (edited (the_tree (kept_by self.old)) file.now (with_bytes (rewritten size offset piece.now)))) }
@@ -240,10 +227,8 @@ impl PathTree {
         ensures limits { self.new.limits ≡ self.old.limits }
     {
         self.held = false;
-        let mut bytes = self.contents.take(self.alloc, file)?;
-        let len = bytes.len();
-        rewrite(&mut bytes, size, offset, piece)?;
-        self.contents.insert(*file, bytes)?;
+        let len = self.nodes.bytes(file).len();
+        self.nodes.rewrite(file, size, offset, piece)?;
         self.bytes = self.bytes - len as u64 + size as u64;
         self.held = true;
         Ok(())
@@ -254,13 +239,13 @@ impl PathTree {
         requires held { self.now.held ≡ true }
         requires kept { get (kept_by self.now).nodes node.now ≡ Some kept }
         ensures size { result.0 ≡ size_of
-            (full_node self.now.contents self.now.names.names node.now kept).content }
+            (full_node (kept_by self.now).contents self.now.names.names node.now kept).content }
         ensures links { result.1 ≡ links_of (the_tree (kept_by self.now)) node.now
-            (full_node self.now.contents self.now.names.names node.now kept).content }
+            (full_node (kept_by self.now).contents self.now.names.names node.now kept).content }
     {
         match kept.kind {
             Kind::Dir => (kept.names, kept.subdirs),
-            Kind::File | Kind::Link => (self.contents.get(node).len() as u32, kept.links),
+            Kind::File | Kind::Link => (self.nodes.bytes(node).len() as u32, kept.links),
         }
     }
 }
@@ -279,6 +264,7 @@ fn add_new(
     requires new_name { get names.old.names (dir.now ++ name.now) ≡ None }
     requires no_dir { get names.old.dirs to.now ≡ None }
     requires unnamed { IsUnnamed names.old to.now }
+    requires room { HasRoom names.old.dirs to.now }
     ensures added { OnOk result (AddsNode kind names.old dir.now name.now to.now names.new) }
 {
     match kind {

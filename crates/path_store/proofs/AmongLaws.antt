@@ -1,9 +1,8 @@
 -- Elements of lists, and entries whose keys differ.
-use Rattle.std.proofs.Common.{◌⊎◌, inl, inr, ◌≡◌, ℕ, Bool, true, false, cond, ◌&&◌, T, List, [], ◌∷◌, ◌++◌, map, Some, None, refl, sym, ap, ◌∙◌, subst}
-use Rattle.std.specs.Prelude.{⊤, Vec}
-use Rattle.std.specs.List.{filter, AllByRecursion}
-use Rattle.std.specs.List.Sorted.{IsStrictlySortedBy}
-use Rattle.std.specs.declared.alloc.Global.{Global}
+use Rattle.std.proofs.Common.{◌⊎◌, inl, inr, ◌≡◌, ℕ, Bool, true, false, cond, ◌&&◌, T, List, [], ◌∷◌, ◌++◌, map, reverse, Some, None, refl, sym, ap, ◌∙◌, subst}
+use Rattle.std.proofs.lemmas.List.{map-append, reverse-append, reverse-reverse}
+use Rattle.std.specs.Prelude.{⊤}
+use Rattle.std.specs.List.{filter}
 use Rattle.std.specs.declared.cmp.Ordering.{Ordering}
 use Rattle.std.specs.declared.cmp.Ordering.TheVariants.{Less, Equal, Greater}
 use Rattle.std.specs.Ordering.{nat_cmp, is_eq, is_lt}
@@ -13,8 +12,6 @@ use Rattle.std.specs.FinMap.Entries.{below_all}
 use Rattle.server_trait.specs.Tree.{ByBytes}
 use Rattle.server_trait.proofs.TreeLaws.{same-keys, same-key_refl, other-keys}
 use Rattle.path_store.specs.Walks.{IsAmong}
-use Rattle.path_store.proofs.Rows.{row, vec_cmp}
-use Rattle.path_store.proofs.SlashLaws.{not_both}
 
 -- ELEMENTS
 
@@ -54,24 +51,29 @@ module _ {A : Type 0} where
     | false ↦ among_kept p x xs m t
   ]
 
-module _ {A B : Type 0} (f : A → B) where
-  pub among_map : (x : A) (xs : List A) → IsAmong x xs → IsAmong (f x) (map f xs)
-  among_map x [] m = absurd m
-  among_map x (y ∷ xs) (inl e) = inl (ap f e)
-  among_map x (y ∷ xs) (inr m) = inr (among_map x xs m)
+  pub among_reverse : (x : A) (xs : List A) → IsAmong x xs → IsAmong x (reverse xs)
+  among_reverse x [] m = absurd m
+  among_reverse x (y ∷ xs) (inl e) = subst (IsAmong x) (sym (reverse-append (y ∷ []) xs))
+      (among_right x (reverse xs) (y ∷ []) (inl e))
+  among_reverse x (y ∷ xs) (inr m) = subst (IsAmong x) (sym (reverse-append (y ∷ []) xs))
+      (among_left x (reverse xs) (y ∷ []) (among_reverse x xs m))
 
-  pub among_of_map : (y : B) (xs : List A) → IsAmong y (map f xs) → (x : A) × IsAmong x xs × (f x ≡ y)
-  among_of_map y [] m = absurd m
-  among_of_map y (x ∷ xs) (inl e) = (x, inl refl, e)
-  among_of_map y (x ∷ xs) (inr m) = let rest = among_of_map y xs m in (rest.0, inr rest.1, rest.2)
+  pub reverse_among : (x : A) (xs : List A) → IsAmong x (reverse xs) → IsAmong x xs
+  reverse_among x xs m = subst (IsAmong x) (reverse-reverse xs) (among_reverse x (reverse xs) m)
+
+module _ {A B : Type 0} (f : A → B) where
+  pub map-reverse : (xs : List A) → map f (reverse xs) ≡ reverse (map f xs)
+  map-reverse [] = refl
+  map-reverse (x ∷ xs) = ap (map f) (reverse-append (x ∷ []) xs) ∙ map-append f (reverse xs) (x ∷ [])
+      ∙ ap (λ l. l ++ f x ∷ []) (map-reverse xs) ∙ sym (reverse-append (f x ∷ []) (map f xs))
 
 -- ENTRIES
 
-first_test : (a b : Bool) → T (a && b) → T a
+pub first_test : (a b : Bool) → T (a && b) → T a
 first_test true b p = tt
 first_test false b p = p
 
-second_test : (a b : Bool) → T (a && b) → T b
+pub second_test : (a b : Bool) → T (a && b) → T b
 second_test true b p = p
 second_test false b p = absurd p
 
@@ -122,7 +124,7 @@ module _ {X : Type 0} where
   below_apart q (e ∷ es) below x (inr m) =
       below_apart q es (second_test (is_lt (slice_cmp nat_cmp q e.0)) (below_all (slice_cmp nat_cmp) q es) below) x m
 
-  sorted_apart : (es : List (List ℕ × X)) → T (is_sorted (slice_cmp nat_cmp) es) → AreApart es
+  pub sorted_apart : (es : List (List ℕ × X)) → T (is_sorted (slice_cmp nat_cmp) es) → AreApart es
   sorted_apart [] sorted = tt
   sorted_apart (e ∷ es) sorted = (
     below_apart e.0 es (first_test (below_all (slice_cmp nat_cmp) e.0 es) (is_sorted (slice_cmp nat_cmp) es) sorted),
@@ -134,21 +136,3 @@ module _ {X : Type 0} where
 
   pub got_entry : (m : ByBytes X) (q : List ℕ) (v : X) → get m q ≡ Some v → IsAmong (q, v) (entries m)
   got_entry m q v is = found_among q v (entries m) (sym (get-entries m q) ∙ is)
-
-  -- entries whose keys are vectors that ascend are apart
-  less_apart : (k : Vec ℕ Global) (es : List (Vec ℕ Global × X)) →
-      AllByRecursion (λ y. vec_cmp k y ≡ Less) (map (λ e. e.0) es) →
-      (x : X) → IsAmong (k.items, x) (map row es) → ⊥
-  less_apart k [] less x m = m
-  less_apart k (e ∷ es) less x (inl same) =
-      let key : e.0.items ≡ k.items = ap (λ (l : List ℕ × X). l.0) same in
-      let tie : is_eq (slice_cmp nat_cmp k.items e.0.items) ≡ true = ap (λ l. is_eq (slice_cmp nat_cmp k.items l)) key
-      ∙ same-key_refl k.items in
-      not_both tie (ap is_eq less.0)
-  less_apart k (e ∷ es) less x (inr m) = less_apart k es less.1 x m
-
-  pub vec_rows_apart : (es : List (Vec ℕ Global × X)) → IsStrictlySortedBy vec_cmp (map (λ e. e.0) es) →
-      AreApart (map row es)
-  unfolding IsStrictlySortedBy
-  vec_rows_apart [] sorted = tt
-  vec_rows_apart (e ∷ es) sorted = (less_apart e.0 es sorted.0, vec_rows_apart es sorted.1)

@@ -11,7 +11,7 @@ use Rattle.server_trait.proofs.SoftLaws.{some_of}
 use Rattle.path_store.specs.Stored.{Stored, Paths, joined, is_under, moved_path, names_of, only_root, IsDir, IsAtOrBelow, Moves}
 use Rattle.path_store.specs.Placed.{Keys, Rows, Dirs, row_at, last_part, names_in, stored_as, IsPlaced}
 use Rattle.path_store.specs.Changes.{IsPathOf, MovesUnder}
-use Rattle.path_store.specs.Walks.{ListsRows}
+use Rattle.path_store.specs.Walks.{ListsRows, StandUnder}
 use Rattle.path_store.specs.declared.row.PathRow.{PathRow}
 use Rattle.path_store.proofs.NameLaws.{get-names_of}
 use Rattle.path_store.proofs.BelowLaws.{below_if_under}
@@ -98,6 +98,15 @@ module _ (s : Stored) (whole : Bool) (keys : Keys) (rows : Rows) (dirs : Dirs)
       o_is ∙ ap (λ p. option_map (λ (row : PathRow). row.to) (row_at keys rows p)) path_is
       ∙ sym (get-names_in keys rows dirs is_placed.tree dir top name is_dir (name_no_slash name is))
       ∙ ap (λ n. get n (dir ++ name)) names_are
+
+  -- the rows of a directory stand under its path
+  pub stand_under : (dir top : List ℕ) → get dirs dir ≡ Some top → StandUnder dir top keys rows
+  stand_under dir top is_dir path row found of_dir =
+      let at = is_placed.tree.placed path row found in (
+        last_part path,
+        at.path_is top (ap (get dirs) of_dir ∙ is_dir),
+        name_no_slash (last_part path) at.name_is,
+      )
 
   pub lists_names : (dir top : List ℕ) (listed : List Listed) → get dirs dir ≡ Some top →
       ListsRows dir top keys rows listed → Lists listed (names_of s.names dir)

@@ -3,6 +3,7 @@ mod AmongLaws
 mod BelowLaws
 mod CallLaws
 mod CaseLaws
+mod DirRows
 mod KeyMoves
 mod MoveLaws
 pub mod NameLaws
@@ -10,7 +11,8 @@ pub mod OrderLaws
 mod PlacedLaws
 mod ReadyLaws
 mod RemoveLaws
-mod RemovedRows
 pub mod Rows
+mod SeekLaws
 mod SlashLaws
+pub mod TableLaws
 mod WalkLaws

@@ -62,7 +62,7 @@ joined_not_nil (b ∷ top) name e = not_nil _ _ e
 
 -- SLASHES
 
-has_slash_in : (top name : List ℕ) → has_slash (top ++ 47 ∷ name) ≡ true
+pub has_slash_in : (top name : List ℕ) → has_slash (top ++ 47 ∷ name) ≡ true
 has_slash_in [] name = refl
 has_slash_in (b ∷ top) name = second_or (b == 47) _ (has_slash_in top name)
 

@@ -42,6 +42,12 @@ moved_dirs rows old new (e ∷ es) dirs = moved_dirs rows old new es
     (led_to (slot rows e.1) (moved_path old new e.0)
     dirs)
 
+-- these paths have moved one after the other, and the directories to which they lead
+pub record MovesAll (old new : List ℕ) (entries : List (List ℕ × ℕ)) (rows : Rows) (keys : Keys) (dirs : Dirs)
+    (new_keys : Keys) (new_dirs : Dirs) : Type 0 where
+  pub keys_are : new_keys ≡ moved_keys old new entries keys
+  pub dirs_are : new_dirs ≡ moved_dirs rows old new entries dirs
+
 -- all that lies under one path lies under another, and the row there is this
 pub record MovesUnder (old new : List ℕ) (row : PathRow) (keys : Keys) (rows : Rows) (dirs : Dirs)
     (new_keys : Keys)

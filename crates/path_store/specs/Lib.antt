@@ -1,4 +1,5 @@
 pub mod Changes
 pub mod Placed
 pub mod Stored
+pub mod Tables
 pub mod Walks

@@ -3,6 +3,7 @@
 ghost use Rattle.std.specs.Prelude.{◌≡◌, ◌++◌, true, false, Some, None, OnOk, OnErr};
 ghost use Rattle.std.specs.FinMap as map;
 ghost use Rattle.nfs2_types.specs.Names.{is_name};
+ghost use Rattle.path_store.specs.Tables.{HasRoom};
 ghost use Rattle.path_store.specs.Stored.{with_name, IsDir, IsUnnamed, HasNoNames, AddsDir, Drops};
 
 use crate::row::{PathRow, put_row, take_row};
@@ -40,6 +41,7 @@ impl PathStore {
         requires new_name { map.get self.old.names (dir.now ++ name.now) ≡ None }
         requires no_dir { map.get self.old.dirs to.now ≡ None }
         requires unnamed { IsUnnamed self.old to.now }
+        requires room { HasRoom self.old.dirs to.now }
         ensures added { OnOk result (AddsDir self.old dir.now name.now to.now self.new) }
         ensures err { OnErr result (self.new.whole ≡ false) }
     {
@@ -47,7 +49,7 @@ impl PathStore {
         let Ok(path) = self.dirs.path_of(self.alloc, dir, name) else {
             return Err(NoMemory);
         };
-        let Ok(copy) = Vec::from_slice(self.alloc, path.as_slice()) else {
+        let Ok(copy) = path.share() else {
             return Err(NoMemory);
         };
         let row = PathRow { dir: *dir, to: *to };
@@ -76,7 +78,7 @@ impl PathStore {
         let Ok(gone) = self.dirs.path_of(self.alloc, dir, name) else {
             return Err(NoMemory);
         };
-        take_row(&mut self.keys, &mut self.rows, gone.as_slice());
+        take_row(&mut self.keys, &mut self.rows, &gone);
         self.dirs.remove(to);
         self.whole = true;
         Ok(())

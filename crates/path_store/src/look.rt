@@ -8,6 +8,7 @@ ghost use Rattle.path_store.specs.Stored.{names_of, IsDir, IsAtOrBelow};
 ghost use Rattle.path_store.specs.Placed.{row_at};
 
 use crate::keys::PathKeys;
+use crate::path::Path;
 use crate::paths::{join, rest_under};
 use crate::row::PathRow;
 use crate::store::PathStore;
@@ -16,7 +17,7 @@ use server_trait::Listed;
 use slab::Slab;
 
 /// The handle to which the row at a path leads.
-fn target(keys: &PathKeys, rows: &Slab<PathRow>, path: &[u8]) -> Option<Handle>
+fn target(keys: &PathKeys, rows: &Slab<PathRow>, path: &Path) -> Option<Handle>
     ensures { result ≡ option_map (λ row. row.to) (row_at keys.now rows.now path.now) }
 {
     let Some(key) = keys.get(path) else {
@@ -38,12 +39,12 @@ impl PathStore {
         let Some(top) = self.dirs.get(dir) else {
             return Ok(None);
         };
-        let path = join(self.alloc, top, name)?;
-        Ok(target(&self.keys, &self.rows, path.as_slice()))
+        let path = join(self.alloc, top.as_slice(), name)?;
+        Ok(target(&self.keys, &self.rows, &path))
     }
 
-    /// The names of a directory, with the handles to which they lead. Its cost is in the
-    /// number of all names under the directory. Errors: NoMemory.
+    /// The names of a directory, with the handles to which they lead. Its cost is in their
+    /// number, whatever lies below them. Errors: NoMemory.
     pub fn list(&self, dir: &Handle) -> Result<Vec<Listed>, NoMemory>
         requires whole { self.now.whole ≡ true }
         requires dir { IsDir self.now dir.now }
@@ -52,7 +53,7 @@ impl PathStore {
         let Some(top) = self.dirs.get(dir) else {
             unreachable!();
         };
-        let rows = self.keys.list(self.alloc, &self.rows, dir, top)?;
+        let rows = self.keys.list(self.alloc, &self.rows, dir, top.as_slice())?;
         Ok(rows)
     }
 
@@ -69,6 +70,6 @@ impl PathStore {
         let Some(path) = self.dirs.get(dir) else {
             unreachable!();
         };
-        rest_under(above, path).is_some()
+        rest_under(above.as_slice(), path.as_slice()).is_some()
     }
 }

@@ -2,15 +2,15 @@
 
 ghost use Rattle.std.specs.Prelude.{◌≡◌, ◌++◌, true, false, Some, None, OnOk, OnErr, IsSome, map as each};
 ghost use Rattle.std.specs.FinMap as map;
-ghost use Rattle.slab.specs.Slab.{get as slot};
 ghost use Rattle.nfs2_types.specs.Names.{is_name};
-ghost use Rattle.path_store.specs.Stored.{IsDir, IsAtOrBelow, Moves, moved_path};
-ghost use Rattle.path_store.specs.Changes.{led_to, moved_dirs, moved_keys, MovesUnder};
+ghost use Rattle.path_store.specs.Stored.{IsDir, IsAtOrBelow, Moves};
+ghost use Rattle.path_store.specs.Changes.{led_to, MovesAll, MovesUnder};
 ghost use Rattle.path_store.specs.Placed.{IsKeyed};
 ghost use Rattle.path_store.specs.Walks.{entry_of};
 
 use crate::dirs::PathDirs;
 use crate::keys::{PathKey, PathKeys};
+use crate::path::Path;
 use crate::paths::move_path;
 use crate::row::{PathRow, set_row};
 use crate::store::PathStore;
@@ -18,64 +18,39 @@ use nfs2_types::{Handle, NoMemory};
 use slab::Slab;
 use std::alloc::Global;
 
-/// Gives these paths their new beginning, one after the other. Errors: NoMemory.
-fn move_keys(
-    alloc: Global,
-    keys: &mut PathKeys,
-    entries: &[PathKey],
-    old: &[u8],
-    new: &[u8],
-) -> Result<(), NoMemory>
-    ensures { OnOk result (keys.new
-        ≡ moved_keys old.now new.now (each entry_of entries.now) keys.old) }
+/// Gives the directory to which a row leads its new path, if it leads to one. Errors: NoMemory.
+fn move_dir(dirs: &mut PathDirs, row: Option<PathRow>, path: &Path) -> Result<(), NoMemory>
+    ensures { OnOk result (dirs.new ≡ led_to row path.now dirs.old) }
 {
-    for entry in entries {
-        let path = move_path(alloc, old, new, entry.path.as_slice())?;
-        let _ = keys.remove(entry.path.as_slice());
-        keys.insert(path, entry.key)?;
-    }
-    Ok(())
-}
-
-/// Gives the directory to which a path leads its new path, if it leads to one. Errors: NoMemory.
-fn move_dir(
-    alloc: Global,
-    dirs: &mut PathDirs,
-    rows: &Slab<PathRow>,
-    entry: &PathKey,
-    old: &[u8],
-    new: &[u8],
-) -> Result<(), NoMemory>
-    ensures { OnOk result (dirs.new
-        ≡ led_to (slot rows.now entry.now.key) (moved_path old.now new.now entry.now.path.items) dirs.old) }
-{
-    let Some(row) = rows.get(entry.key).copied() else {
+    let Some(row) = row else {
         return Ok(());
     };
     if dirs.get(&row.to).is_none() {
         return Ok(());
     }
-    let path = move_path(alloc, old, new, entry.path.as_slice())?;
-    let Ok(()) = dirs.insert(&row.to, path) else {
-        return Err(NoMemory);
-    };
-    Ok(())
+    let shared = path.share()?;
+    dirs.insert(&row.to, shared)
 }
 
-/// Gives the directories to which these paths lead their new paths, one after the other. Errors: NoMemory.
-fn move_dirs(
+/// Takes these paths out, and puts each back under its new beginning, and so the directories to which they lead: one
+/// after the other, so that of no more than one both paths are kept. Errors: NoMemory.
+fn move_all(
     alloc: Global,
-    dirs: &mut PathDirs,
+    keys: &mut PathKeys,
     rows: &Slab<PathRow>,
-    entries: &[PathKey],
+    dirs: &mut PathDirs,
+    entries: Vec<PathKey>,
     old: &[u8],
     new: &[u8],
 ) -> Result<(), NoMemory>
-    ensures { OnOk result (dirs.new
-        ≡ moved_dirs rows.now old.now new.now (each entry_of entries.now) dirs.old) }
+    ensures { OnOk result (MovesAll old.now new.now (each entry_of entries.items) rows.now keys.old dirs.old
+        keys.new dirs.new) }
 {
     for entry in entries {
-        move_dir(alloc, dirs, rows, entry, old, new)?;
+        let path = move_path(alloc, old, new, &entry.path)?;
+        let _ = keys.remove(&entry.path);
+        move_dir(dirs, rows.get(entry.key).copied(), &path)?;
+        keys.insert(path, entry.key)?;
     }
     Ok(())
 }
@@ -87,26 +62,30 @@ fn move_under(
     keys: &mut PathKeys,
     rows: &mut Slab<PathRow>,
     dirs: &mut PathDirs,
-    old: &[u8],
-    new: &[u8],
+    old: &Path,
+    new: &Path,
     row: PathRow,
 ) -> Result<(), NoMemory>
     requires keyed { IsKeyed keys.old rows.old }
     requires has_key { IsSome (map.get keys.old old.now) }
     ensures { OnOk result (MovesUnder old.now new.now row keys.old rows.old dirs.old keys.new rows.new dirs.new) }
 {
-    let Ok(under) = keys.under(alloc, old) else {
+    let Ok(entries) = keys.under(alloc, old) else {
         return Err(NoMemory);
     };
     let Some(key) = keys.get(old) else {
         unreachable!();
     };
     set_row(rows, key, row);
-    let entries = under.as_slice();
-    let Ok(()) = move_keys(alloc, keys, entries, old, new) else {
-        return Err(NoMemory);
-    };
-    let Ok(()) = move_dirs(alloc, dirs, rows, entries, old, new) else {
+    let Ok(()) = move_all(
+        alloc,
+        keys,
+        rows,
+        dirs,
+        entries,
+        old.as_slice(),
+        new.as_slice(),
+    ) else {
         return Err(NoMemory);
     };
     Ok(())
@@ -150,8 +129,8 @@ impl PathStore {
             &mut self.keys,
             &mut self.rows,
             &mut self.dirs,
-            old.as_slice(),
-            new.as_slice(),
+            &old,
+            &new,
             row,
         ) else {
             return Err(NoMemory);

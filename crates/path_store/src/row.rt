@@ -5,6 +5,7 @@ ghost use Rattle.slab.specs.Slab.{get as slot, Updates};
 ghost use Rattle.path_store.specs.Changes.{PutsRow, TakesRow};
 
 use crate::keys::PathKeys;
+use crate::path::Path;
 use nfs2_types::{Handle, NoMemory};
 use slab::Slab;
 
@@ -19,10 +20,10 @@ pub struct PathRow {
 pub fn put_row(
     keys: &mut PathKeys,
     rows: &mut Slab<PathRow>,
-    path: Vec<u8>,
+    path: Path,
     row: PathRow,
 ) -> Result<(), NoMemory>
-    ensures { OnOk result (PutsRow keys.old rows.old path.items row keys.new rows.new) }
+    ensures { OnOk result (PutsRow keys.old rows.old path row keys.new rows.new) }
 {
     let Ok(key) = rows.insert(row) else {
         return Err(NoMemory);
@@ -34,7 +35,7 @@ pub fn put_row(
 }
 
 /// Takes out the row under a path.
-pub fn take_row(keys: &mut PathKeys, rows: &mut Slab<PathRow>, path: &[u8])
+pub fn take_row(keys: &mut PathKeys, rows: &mut Slab<PathRow>, path: &Path)
     ensures { TakesRow keys.old rows.old path.now keys.new rows.new }
 {
     let Some(key) = keys.remove(path) else {

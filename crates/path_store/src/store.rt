@@ -5,6 +5,7 @@ ghost use Rattle.path_store.specs.Stored.{only_root};
 
 use crate::dirs::PathDirs;
 use crate::keys::PathKeys;
+use crate::path::Path;
 use crate::row::PathRow;
 use nfs2_types::{Handle, NoMemory};
 use slab::Slab;
@@ -41,8 +42,9 @@ impl PathStore {
     pub fn new(alloc: Global, root: &Handle) -> Result<PathStore, NoMemory>
         ensures { IfOk result (λ s. s ≡ only_root root.now) }
     {
+        let top = Path::new(Vec::new(alloc))?;
         let mut dirs = PathDirs::new(alloc);
-        let Ok(()) = dirs.insert(root, Vec::new(alloc)) else {
+        let Ok(()) = dirs.insert(root, top) else {
             return Err(NoMemory);
         };
         Ok(PathStore {

@@ -14,7 +14,8 @@ use std::test::Fail;
 /// What a call answers, or why it does not.
 pub type Answer<T> = Result<T, &'static str>;
 
-/// A call with what it is to answer. Nodes go by their serial numbers: the root has 1, and each new node the next.
+/// A call with what it is to answer. Nodes go by their serial numbers: the root has 1, and each new node the next. Each
+/// stands at a place of its own, and a node that has the place of one that went has a hundred times its number besides.
 #[derive(Clone, Copy)]
 pub enum Case {
     Mkdir(u64, &'static [u8], Answer<u64>),
@@ -34,8 +35,15 @@ pub enum Case {
     Attr(u64, Answer<(Kind, u32, u32, u32, u32, u32)>),
 }
 
+/// The handle of a node.
+pub fn handle(node: u64) -> Handle {
+    let serial = node % 100;
+    let first = if node < 100 { serial } else { node / 100 };
+    handle_of(serial, first.saturating_sub(1) as usize)
+}
+
 /// The handle of a new directory.
-fn made(server: &mut Srv, dir: &Handle, name: &[u8]) -> Result<Answer<Handle>, Fail>
+pub fn made(server: &mut Srv, dir: &Handle, name: &[u8]) -> Result<Answer<Handle>, Fail>
     requires { HasTree (⟦<Srv as FileServer>⟧.state server.old) }
     ensures { OnOk result (HasTree (⟦<Srv as FileServer>⟧.state server.new)) }
 {
@@ -53,7 +61,7 @@ fn made(server: &mut Srv, dir: &Handle, name: &[u8]) -> Result<Answer<Handle>, F
 }
 
 /// The handle of a new file.
-fn created(server: &mut Srv, dir: &Handle, name: &[u8]) -> Result<Answer<Handle>, Fail>
+pub fn created(server: &mut Srv, dir: &Handle, name: &[u8]) -> Result<Answer<Handle>, Fail>
     requires { HasTree (⟦<Srv as FileServer>⟧.state server.old) }
     ensures { OnOk result (HasTree (⟦<Srv as FileServer>⟧.state server.new)) }
 {
@@ -89,7 +97,7 @@ fn linked(server: &mut Srv, dir: &Handle, name: &[u8], text: &[u8]) -> Result<An
 }
 
 /// Where a name leads.
-fn found(server: &mut Srv, dir: &Handle, name: &[u8]) -> Result<Answer<Handle>, Fail>
+pub fn found(server: &mut Srv, dir: &Handle, name: &[u8]) -> Result<Answer<Handle>, Fail>
     requires { HasTree (⟦<Srv as FileServer>⟧.state server.old) }
     ensures { OnOk result (HasTree (⟦<Srv as FileServer>⟧.state server.new)) }
 {
@@ -106,7 +114,7 @@ fn found(server: &mut Srv, dir: &Handle, name: &[u8]) -> Result<Answer<Handle>, 
 }
 
 /// The names of a directory.
-fn listed(server: &mut Srv, dir: &Handle) -> Result<Answer<Vec<Listed>>, Fail>
+pub fn listed(server: &mut Srv, dir: &Handle) -> Result<Answer<Vec<Listed>>, Fail>
     requires { HasTree (⟦<Srv as FileServer>⟧.state server.old) }
     ensures { OnOk result (HasTree (⟦<Srv as FileServer>⟧.state server.new)) }
 {
@@ -283,9 +291,9 @@ fn same_names(answer: Answer<Vec<Listed>>, wanted: Answer<&[(&[u8], u64)]>) -> b
         (Ok(rows), Ok(wanted)) => {
             rows.len() == wanted.len()
                 && wanted.iter().all(|(name, serial)| {
-                    let handle = handle_of(*serial);
+                    let node = handle(*serial);
                     rows.iter()
-                        .any(|row| row.name.as_slice() == *name && row.handle == handle)
+                        .any(|row| row.name.as_slice() == *name && row.handle == node)
                 })
         }
         (Err(error), Err(wanted)) => error == wanted,
@@ -305,7 +313,7 @@ fn same_attr(answer: Answer<NodeAttr>, wanted: Answer<(Kind, u32, u32, u32, u32,
 /// Whether a handle is that of a serial number.
 fn same_node(answer: Answer<Handle>, wanted: Answer<u64>) -> bool {
     match (answer, wanted) {
-        (Ok(handle), Ok(serial)) => handle == handle_of(serial),
+        (Ok(found), Ok(node)) => found == handle(node),
         (Err(error), Err(wanted)) => error == wanted,
         _ => false,
     }
@@ -318,42 +326,40 @@ fn holds(server: &mut Srv, case: Case) -> Result<bool, Fail>
 {
     match case {
         Case::Mkdir(dir, name, wanted) => {
-            Ok(same_node(made(server, &handle_of(dir), name)?, wanted))
+            Ok(same_node(made(server, &handle(dir), name)?, wanted))
         }
         Case::Create(dir, name, wanted) => {
-            Ok(same_node(created(server, &handle_of(dir), name)?, wanted))
+            Ok(same_node(created(server, &handle(dir), name)?, wanted))
         }
         Case::Symlink(dir, name, text, wanted) => Ok(same_node(
-            linked(server, &handle_of(dir), name, text)?,
+            linked(server, &handle(dir), name, text)?,
             wanted,
         )),
         Case::Lookup(dir, name, wanted) => {
-            Ok(same_node(found(server, &handle_of(dir), name)?, wanted))
+            Ok(same_node(found(server, &handle(dir), name)?, wanted))
         }
-        Case::List(dir, wanted) => Ok(same_names(listed(server, &handle_of(dir))?, wanted)),
+        Case::List(dir, wanted) => Ok(same_names(listed(server, &handle(dir))?, wanted)),
         Case::Write(file, offset, piece, wanted) => {
-            Ok(wrote(server, &handle_of(file), offset, piece)? == wanted)
+            Ok(wrote(server, &handle(file), offset, piece)? == wanted)
         }
-        Case::SetSize(file, size, wanted) => {
-            Ok(sized(server, &handle_of(file), size)? == wanted)
-        }
+        Case::SetSize(file, size, wanted) => { Ok(sized(server, &handle(file), size)? == wanted) }
         Case::Read(file, offset, count, wanted) => Ok(same_bytes(
-            bytes_at(server, &handle_of(file), offset, count)?,
+            bytes_at(server, &handle(file), offset, count)?,
             wanted,
         )),
-        Case::ReadLink(link, wanted) => Ok(same_bytes(text_of(server, &handle_of(link))?, wanted)),
+        Case::ReadLink(link, wanted) => Ok(same_bytes(text_of(server, &handle(link))?, wanted)),
         Case::Link(node, dir, name, wanted) => {
-            Ok(named(server, &handle_of(node), &handle_of(dir), name)? == wanted)
+            Ok(named(server, &handle(node), &handle(dir), name)? == wanted)
         }
-        Case::Remove(dir, name, wanted) => Ok(unnamed(server, &handle_of(dir), name)? == wanted),
-        Case::Rmdir(dir, name, wanted) => Ok(emptied(server, &handle_of(dir), name)? == wanted),
+        Case::Remove(dir, name, wanted) => Ok(unnamed(server, &handle(dir), name)? == wanted),
+        Case::Rmdir(dir, name, wanted) => Ok(emptied(server, &handle(dir), name)? == wanted),
         Case::Rename(from, name, to, to_name, wanted) => {
-            Ok(renamed(server, &handle_of(from), name, &handle_of(to), to_name)? == wanted)
+            Ok(renamed(server, &handle(from), name, &handle(to), to_name)? == wanted)
         }
         Case::SetAttr(node, mode, uid, gid) => {
-            Ok(attr_set(server, &handle_of(node), mode, uid, gid)? == Ok(()))
+            Ok(attr_set(server, &handle(node), mode, uid, gid)? == Ok(()))
         }
-        Case::Attr(node, wanted) => Ok(same_attr(attr_of(server, &handle_of(node))?, wanted)),
+        Case::Attr(node, wanted) => Ok(same_attr(attr_of(server, &handle(node))?, wanted)),
     }
 }
 

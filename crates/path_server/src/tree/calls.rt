@@ -34,7 +34,7 @@ impl PathTree {
         requires { HasTree (state_of self.old) }
         ensures { Attr (state_of self.old) node.now result (state_of self.new) }
     {
-        let Some(kept) = self.nodes.get(node).copied() else {
+        let Some(kept) = self.nodes.get(node) else {
             return Err(SrvErr::Stale);
         };
         let (size, links) = self.size_and_links(node, kept);
@@ -55,14 +55,11 @@ impl PathTree {
         requires { HasTree (state_of self.old) }
         ensures { SetAttr (state_of self.old) node.now mode uid gid result (state_of self.new) }
     {
-        let Some(kept) = self.nodes.get(node).copied() else {
+        let Some(kept) = self.nodes.get(node) else {
             return Err(SrvErr::Stale);
         };
         let changed = kept.with_attr(mode, uid, gid);
-        // A node that is there takes no memory.
-        let Ok(_) = self.nodes.insert(*node, changed) else {
-            unreachable!();
-        };
+        self.nodes.set(node, changed);
         Ok(())
     }
 
@@ -72,7 +69,7 @@ impl PathTree {
         ensures { Read (state_of self.old) file.now offset count result (state_of self.new) }
     {
         let _ = self.find(file, Kind::File)?;
-        let bytes = part(self.contents.get(file), offset as usize, count as usize);
+        let bytes = part(self.nodes.bytes(file), offset as usize, count as usize);
         match Vec::from_slice(self.alloc, bytes) {
             Ok(copy) => Ok(copy),
             Err(_) => {
@@ -88,7 +85,7 @@ impl PathTree {
         ensures { ReadLink (state_of self.old) link.now result (state_of self.new) }
     {
         let _ = self.find(link, Kind::Link)?;
-        match Vec::from_slice(self.alloc, self.contents.get(link)) {
+        match Vec::from_slice(self.alloc, self.nodes.bytes(link)) {
             Ok(copy) => Ok(copy),
             Err(_) => {
                 self.held = false;
@@ -107,7 +104,7 @@ impl PathTree {
     {
         let _ = self.find(file, Kind::File)?;
         let start = offset as usize;
-        let len = self.contents.get(file).len();
+        let len = self.nodes.bytes(file).len();
         let size = max(len, start + piece.len());
         if self.bytes - len as u64 + size as u64 > self.limits.bytes {
             return Err(SrvErr::Full);
@@ -125,7 +122,7 @@ impl PathTree {
         ensures { SetSize (state_of self.old) file.now size result (state_of self.new) }
     {
         let _ = self.find(file, Kind::File)?;
-        let len = self.contents.get(file).len();
+        let len = self.nodes.bytes(file).len();
         if self.bytes - len as u64 + u64::from(size) > self.limits.bytes {
             return Err(SrvErr::Full);
         }

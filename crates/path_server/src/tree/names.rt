@@ -21,7 +21,7 @@ impl PathTree {
     pub(super) fn find_leaf(&self, node: &Handle) -> Result<PathNode, SrvErr>
         ensures { IsFoundLeaf (kept_by self.now).nodes node.now result }
     {
-        match self.nodes.get(node).copied() {
+        match self.nodes.get(node) {
             Some(kept) if kept.kind == Kind::Dir => Err(SrvErr::WrongKind),
             Some(kept) => Ok(kept),
             None => Err(SrvErr::Stale),
@@ -31,11 +31,11 @@ impl PathTree {
     /// The bytes that a node without names uses.
     fn bytes_alone(&self, node: &Handle, kind: Kind) -> u64
         ensures { result ≡ used_by
-            (content_of kind (bytes_under self.now.contents node.now) empty) }
+            (content_of kind (bytes_under (kept_by self.now).contents node.now) empty) }
     {
         match kind {
             Kind::Dir => 0,
-            Kind::File | Kind::Link => self.contents.get(node).len() as u64,
+            Kind::File | Kind::Link => self.nodes.bytes(node).len() as u64,
         }
     }
 
@@ -61,12 +61,8 @@ impl PathTree {
     {
         self.held = false;
         self.names.add(dir, name, node)?;
-        let Ok(_) = self.nodes.insert(*dir, within.with_name(kept.kind)) else {
-            return Err(NoMemory);
-        };
-        let Ok(_) = self.nodes.insert(*node, kept.linked()) else {
-            return Err(NoMemory);
-        };
+        self.nodes.set(dir, within.with_name(kept.kind));
+        self.nodes.set(node, kept.linked());
         self.bytes += 512;
         self.held = true;
         Ok(())
@@ -119,12 +115,8 @@ impl PathTree {
     {
         self.held = false;
         self.names.remove(dir, name, node)?;
-        let Ok(_) = self.nodes.insert(*dir, within.without_name(kept.kind)) else {
-            return Err(NoMemory);
-        };
-        let Ok(_) = self.nodes.insert(*node, kept.unlinked()) else {
-            return Err(NoMemory);
-        };
+        self.nodes.set(dir, within.without_name(kept.kind));
+        self.nodes.set(node, kept.unlinked());
         self.bytes -= 512;
         self.held = true;
         Ok(())
@@ -154,11 +146,8 @@ impl PathTree {
         self.held = false;
         let bytes = self.bytes_alone(node, kept.kind);
         self.names.remove(dir, name, node)?;
-        let Ok(_) = self.nodes.insert(*dir, within.without_name(kept.kind)) else {
-            return Err(NoMemory);
-        };
+        self.nodes.set(dir, within.without_name(kept.kind));
         self.nodes.remove(node);
-        self.contents.remove(node);
         self.bytes -= 512 + bytes;
         self.held = true;
         Ok(())

@@ -51,16 +51,12 @@ impl PathTree {
     {
         self.held = false;
         self.names.rename(from, name, to, to_name, moved)?;
-        let Ok(_) = self.nodes.insert(*from, within.without_name(kind)) else {
-            return Err(NoMemory);
-        };
+        self.nodes.set(from, within.without_name(kind));
         // The directory as it is by now: both may be one.
-        let Some(into) = self.nodes.get(to).copied() else {
+        let Some(into) = self.nodes.get(to) else {
             unreachable!();
         };
-        let Ok(_) = self.nodes.insert(*to, into.with_name(kind)) else {
-            return Err(NoMemory);
-        };
+        self.nodes.set(to, into.with_name(kind));
         self.held = true;
         Ok(())
     }
@@ -84,7 +80,7 @@ impl PathTree {
         requires new_name { get (kept_by self.old).paths (to.now ++ to_name.now) ≡ None }
         ensures { Rename (state_of self.old) from.now name.now to.now to_name.now result (state_of self.new) }
     {
-        let Some(node) = self.nodes.get(moved).copied() else {
+        let Some(node) = self.nodes.get(moved) else {
             unreachable!();
         };
         if self.moves_below(moved, node.kind, to) {

@@ -3,14 +3,16 @@
 ghost use Rattle.std.specs.Prelude.{◌≡◌, ◌++◌, true, false, IfOk, OnOk, is_some};
 ghost use Rattle.std.specs.FinMap as map;
 ghost use Rattle.nfs2_types.specs.Names.{is_name};
+ghost use Rattle.path_store.specs.Tables.{HasRoom};
 ghost use Rattle.path_store.specs.Stored.{HasNoNames, IsAtOrBelow, IsDir, IsUnnamed};
 
-use crate::PathStore;
+use crate::dirs::row_at;
+use crate::{PathStore, place_of};
 use nfs2_types::{Handle, is_bad, is_dot};
 use std::alloc::Global;
 use std::test::Fail;
 
-/// A call with what it is to answer. The handle of a number has 32 times its byte; the root's is 0.
+/// A call with what it is to answer. The handle of a number carries it as its place; the root's is 0.
 #[derive(Clone, Copy)]
 pub enum Case {
     AddDir(u8, &'static [u8], u8),
@@ -27,6 +29,24 @@ fn is_dir(store: &PathStore, dir: &Handle) -> bool
     ensures { result ≡ is_some (map.get store.now.dirs dir.now) }
 {
     store.dirs.get(dir).is_some()
+}
+
+/// Whether no other directory has the place of a handle.
+fn has_room(store: &PathStore, dir: &Handle) -> bool
+    ensures { result ≡ true → HasRoom store.now.dirs dir.now }
+{
+    let dirs = &store.dirs;
+    match row_at(dirs.rows.as_slice(), place_of(dir)) {
+        Some(row) => row.handle == *dir,
+        None => true,
+    }
+}
+
+/// The handle of a number.
+fn handle(number: u8) -> Handle {
+    let mut handle = [0; 32];
+    handle[23] = number;
+    handle
 }
 
 /// Whether a name leads to a handle.
@@ -106,6 +126,9 @@ fn added_dir(store: &mut PathStore, dir: &Handle, name: &[u8], to: &Handle) -> R
         return Ok(false);
     }
     if is_named(store, to) {
+        return Ok(false);
+    }
+    if !has_room(store, to) {
         return Ok(false);
     }
     match store.add_dir(dir, name, to) {
@@ -191,7 +214,7 @@ fn lists(store: &PathStore, dir: &Handle, wanted: &[(&[u8], u8)]) -> Result<bool
     Ok(
         rows.len() == wanted.len()
             && rows.iter().zip(wanted).all(|(row, (name, to))| row.name.as_slice() == *name
-                && row.handle == [*to; 32]),
+                && row.handle == handle(*to)),
     )
 }
 
@@ -201,27 +224,28 @@ fn holds(store: &mut PathStore, case: Case) -> Result<bool, Fail>
     ensures { OnOk result (store.new.whole ≡ true) }
 {
     match case {
-        Case::AddDir(dir, name, to) => added_dir(store, &[dir; 32], name, &[to; 32]),
-        Case::Add(dir, name, to) => added(store, &[dir; 32], name, &[to; 32]),
-        Case::Remove(dir, name) => removed(store, &[dir; 32], name),
+        Case::AddDir(dir, name, to) => added_dir(store, &handle(dir), name, &handle(to)),
+        Case::Add(dir, name, to) => added(store, &handle(dir), name, &handle(to)),
+        Case::Remove(dir, name) => removed(store, &handle(dir), name),
         Case::Rename(from, name, to, to_name) => {
-            renamed(store, &[from; 32], name, &[to; 32], to_name)
+            renamed(store, &handle(from), name, &handle(to), to_name)
         }
-        Case::Get(dir, name, Some(to)) => Ok(found(store, &[dir; 32], name)? == Some([to; 32])),
-        Case::Get(dir, name, None) => Ok(found(store, &[dir; 32], name)? == None),
-        Case::List(dir, wanted) => lists(store, &[dir; 32], wanted),
+        Case::Get(dir, name, Some(to)) => Ok(found(store, &handle(dir), name)? == Some(handle(to))),
+        Case::Get(dir, name, None) => Ok(found(store, &handle(dir), name)? == None),
+        Case::List(dir, wanted) => lists(store, &handle(dir), wanted),
         Case::IsBelow(top, dir, wanted) => {
-            if !is_dir(store, &[top; 32]) || !is_dir(store, &[dir; 32]) {
+            let (top, dir) = (handle(top), handle(dir));
+            if !is_dir(store, &top) || !is_dir(store, &dir) {
                 return Ok(false);
             }
-            Ok(store.is_below(&[top; 32], &[dir; 32]) == wanted)
+            Ok(store.is_below(&top, &dir) == wanted)
         }
     }
 }
 
 /// Which of the calls on a new store answers otherwise.
 pub fn odd_one(alloc: Global, cases: &[Case]) -> Result<Option<usize>, Fail> {
-    let Ok(mut store) = PathStore::new(alloc, &[0; 32]) else {
+    let Ok(mut store) = PathStore::new(alloc, &handle(0)) else {
         return Err("memory".into());
     };
     for (at, case) in cases.iter().enumerate() {

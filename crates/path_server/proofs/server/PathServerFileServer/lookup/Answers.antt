@@ -1,4 +1,4 @@
-use Rattle.std.proofs.Common.{Ok, Err, subst}
+use Rattle.std.proofs.Common.{subst}
 use Rattle.server_trait.specs.Calls.{Lookup}
 use Rattle.path_server.specs.Shown.{shown_at}
 use Rattle.path_server.specs.State.{state_of}

@@ -1,4 +1,4 @@
-use Rattle.std.proofs.Common.{length, Ok, Err, subst}
+use Rattle.std.proofs.Common.{length, subst}
 use Rattle.server_trait.specs.Tree.{TextOf}
 use Rattle.server_trait.specs.Calls.{Symlink}
 use Rattle.path_server.specs.Shown.{shown_at}

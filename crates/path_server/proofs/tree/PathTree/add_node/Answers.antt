@@ -1,12 +1,11 @@
-use Rattle.std.specs.FinMap.{from_entries}
-use Rattle.std.proofs.Common.{subst, List, ℕ, arith}
-use Rattle.path_store.proofs.Rows.{insert-two}
-use Rattle.path_server.specs.Bytes.{IsAdded}
-use Rattle.path_server.specs.Nodes.{made_node, one_more}
+use Rattle.std.specs.FinMap.{insert}
+use Rattle.std.proofs.Common.{ap, ◌∙◌}
+use Rattle.path_server.specs.Slots.{nodes_in, bytes_in}
 use Rattle.path_server.specs.State.{kept_by}
 use Rattle.path_server.proofs.MakeLaws.{made_after, sound_made, stored_made}
-use Rattle.path_server.proofs.NamedLaws.{IsDirNode, dir_stored, no_path, is_and_none, unkept_unnamed}
-use Rattle.path_server.proofs.Serials.{handle_absent}
+use Rattle.path_server.proofs.NamedLaws.{IsDirNode, dir_stored, no_path, is_and_none, some_is, grown, unkept_unnamed}
+use Rattle.server_trait.proofs.TreeLaws.{some_and}
+use Rattle.path_server.proofs.Recounted.{two_sets}
 use Rattle.path_server.proofs.SoundLaws.{few_names, few_subdirs}
 use Rattle.path_server.proofs.tree.PathTree.add_node.Goals as goal
 
@@ -31,63 +30,58 @@ add_new-requires-clause-dir c = let s = c.args.self.now in
     )
 
 pub add_new-requires-clause-no_dir : goal.add_new-requires-clause-no_dir
-add_new-requires-clause-no_dir c =
-    let s = c.args.self.now in
-    let next = c.in-Some.ensures in
-    let nodes = (kept_by s).nodes in
-    no_path nodes s.names (s.stored c.requires.held) c.handle_of-handle.result (λ there. is_and_none _ IsDirNode there
-    (handle_absent nodes s.next (s.sound c.requires.held).serials c.handle_of-handle.result c.handle_of-handle.ensures
-    (omega (arith, next.0))))
+add_new-requires-clause-no_dir c = let s = c.args.self.now in
+    no_path (kept_by s).nodes s.names (s.stored c.requires.held) c.in_ok-handle.handle
+    (λ there. is_and_none _ IsDirNode there c.in_ok-handle.ensures.absent)
 
 pub add_new-requires-clause-unnamed : goal.add_new-requires-clause-unnamed
-add_new-requires-clause-unnamed c =
-    let s = c.args.self.now in
-    let next = c.in-Some.ensures in
-    let nodes = (kept_by s).nodes in
-    let sound = s.sound c.requires.held in
-    unkept_unnamed nodes s.names.names sound.named c.handle_of-handle.result (handle_absent nodes s.next sound.serials
-    c.handle_of-handle.result c.handle_of-handle.ensures (omega (arith, next.0)))
+add_new-requires-clause-unnamed c = let s = c.args.self.now in
+    unkept_unnamed (kept_by s).nodes s.names.names (s.sound c.requires.held).named c.in_ok-handle.handle
+    c.in_ok-handle.ensures.absent
+
+pub add_new-requires-clause-room : goal.add_new-requires-clause-room
+add_new-requires-clause-room c = λ q there same. absurd (c.in_ok-handle.ensures.apart q
+    (some_is (some_and _ IsDirNode (((c.args.self.now.stored c.requires.held).dirs q).0 there)).1) same)
+
+pub set-requires : goal.set-requires
+set-requires c = grown _ _ _ _ _ c.in_ok-handle.ensures.nodes c.requires.kept
 
 pub invariant_of-self-2 : goal.invariant_of-self-2
 invariant_of-self-2 c =
     let s = c.args.self.now in
-    let next = c.in-Some.ensures in
-    let is_added = subst (λ (h : List ℕ). IsAdded c.args.kind h c.args.bytes.now s.contents c.add.new.self)
-    c.handle_of-handle.ensures c.in_ok-add.ensures in
-    let put = insert-two s.nodes.entries c.insert.new.self.entries c.insert-2.new.self.entries
-    c.handle_of-handle.result c.args.dir.now c.new-node.result (made_node c.args.kind s.next 1)
-    c.with_name.result (one_more c.args.kind c.args.kept)
-    c.new-node.ensures c.with_name.ensures c.in-Ok.ensures.entries c.in-Ok-insert.ensures.entries in
     record {
       limited = s.limited;
-      sound = λ _. sound_made s.limits s.next s.bytes (kept_by s) (s.sound c.requires.held) (omega (arith, next.0))
-          c.args.dir.now c.args.name.now c.args.kept c.requires.kept c.requires.is_dir c.requires.new_name
-          c.args.kind c.args.bytes.now c.add.new.self is_added
-          c.handle_of-handle.result (from_entries c.insert-2.new.self.entries) c.add_new.new.names.names
-          c.handle_of-handle.ensures put
-          c.in_ok-add_new.ensures.added.names c.in-Some.next next.1 c.requires.bytes c.requires.room c.requires.nodes;
-      stored = λ _. stored_made s.limits s.next s.bytes (kept_by s) (s.sound c.requires.held) (omega (arith, next.0))
-          c.args.dir.now c.args.name.now c.args.kept c.requires.kept c.requires.is_dir c.requires.new_name
-          c.args.kind c.args.bytes.now c.add.new.self is_added
-          c.handle_of-handle.result (from_entries c.insert-2.new.self.entries) c.add_new.new.names.names
-          c.handle_of-handle.ensures put
-          c.in_ok-add_new.ensures.added.names s.names c.add_new.new.names
-          (s.stored c.requires.held) c.in_ok-add_new.ensures.added;
+      sound = λ _. sound_made s.limits s.next s.bytes (kept_by s) (s.sound c.requires.held) c.args.dir.now
+          c.args.name.now c.args.kept c.requires.kept c.requires.is_dir c.requires.new_name c.args.kind c.args.bytes.now
+          c.in_ok-handle.handle c.in_ok-handle.ensures.handle_is c.in_ok-handle.ensures.absent c.requires.bytes
+          c.requires.room c.requires.nodes (nodes_in c.set.new.self)
+          (two_sets (kept_by s).nodes c.in_ok-handle.handle c.args.dir.now c.in_ok-handle.ensures.nodes c.set.ensures.nodes
+          c.new-node.ensures c.with_name.ensures) (bytes_in c.set.new.self)
+          (c.set.ensures.bytes ∙ c.in_ok-handle.ensures.bytes
+          ∙ ap (insert (kept_by s).contents c.in_ok-handle.handle) c.in_ok-copy.ensures.items) c.add_new.new.names.names
+          c.in_ok-add_new.ensures.added.names c.in-Some.next
+          c.in-Some.ensures.1;
+      stored = λ _. stored_made s.limits s.next s.bytes (kept_by s) (s.sound c.requires.held) c.args.dir.now
+          c.args.name.now c.args.kept c.requires.kept c.requires.is_dir c.requires.new_name c.args.kind c.args.bytes.now
+          c.in_ok-handle.handle c.in_ok-handle.ensures.handle_is c.in_ok-handle.ensures.absent c.requires.bytes
+          c.requires.room c.requires.nodes (nodes_in c.set.new.self)
+          (two_sets (kept_by s).nodes c.in_ok-handle.handle c.args.dir.now c.in_ok-handle.ensures.nodes c.set.ensures.nodes
+          c.new-node.ensures c.with_name.ensures) (bytes_in c.set.new.self)
+          (c.set.ensures.bytes ∙ c.in_ok-handle.ensures.bytes
+          ∙ ap (insert (kept_by s).contents c.in_ok-handle.handle) c.in_ok-copy.ensures.items) c.add_new.new.names.names
+          c.in_ok-add_new.ensures.added.names s.names
+          c.add_new.new.names (s.stored c.requires.held) c.in_ok-add_new.ensures.added;
     }
 
 pub returns-clause-ok : goal.returns-clause-ok
 returns-clause-ok c =
     let s = c.args.self.now in
-    let next = c.in-Some.ensures in
-    made_after s.limits s.next s.bytes (kept_by s) (s.sound c.requires.held) (omega (arith, next.0))
-    c.args.dir.now c.args.name.now c.args.kept c.requires.kept c.requires.is_dir c.requires.new_name c.args.kind
-    c.args.bytes.now c.add.new.self
-    (subst (λ (h : List ℕ). IsAdded c.args.kind h c.args.bytes.now s.contents c.add.new.self)
-    c.handle_of-handle.ensures c.in_ok-add.ensures)
-    c.handle_of-handle.result
-    (from_entries c.insert-2.new.self.entries) c.add_new.new.names.names c.handle_of-handle.ensures
-    (insert-two s.nodes.entries c.insert.new.self.entries c.insert-2.new.self.entries c.handle_of-handle.result
-    c.args.dir.now c.new-node.result (made_node c.args.kind s.next 1) c.with_name.result (one_more c.args.kind
-    c.args.kept)
-    c.new-node.ensures c.with_name.ensures c.in-Ok.ensures.entries c.in-Ok-insert.ensures.entries)
+    made_after s.limits s.next s.bytes (kept_by s) (s.sound c.requires.held) c.args.dir.now
+    c.args.name.now c.args.kept c.requires.kept c.requires.is_dir c.requires.new_name c.args.kind c.args.bytes.now
+    c.in_ok-handle.handle c.in_ok-handle.ensures.handle_is c.in_ok-handle.ensures.absent c.requires.bytes
+    c.requires.room c.requires.nodes (nodes_in c.set.new.self)
+    (two_sets (kept_by s).nodes c.in_ok-handle.handle c.args.dir.now c.in_ok-handle.ensures.nodes c.set.ensures.nodes
+    c.new-node.ensures c.with_name.ensures) (bytes_in c.set.new.self)
+    (c.set.ensures.bytes ∙ c.in_ok-handle.ensures.bytes
+    ∙ ap (insert (kept_by s).contents c.in_ok-handle.handle) c.in_ok-copy.ensures.items) c.add_new.new.names.names
     c.in_ok-add_new.ensures.added.names

@@ -1,11 +1,10 @@
-use Rattle.std.specs.FinMap.{from_entries}
-use Rattle.std.proofs.Common.{refl, arith}
-use Rattle.path_store.proofs.Rows.{insert-two}
-use Rattle.path_server.specs.Nodes.{one_less, one_link_less}
+use Rattle.std.proofs.Common.{refl, arith, ◌∙◌}
+use Rattle.path_server.specs.Slots.{nodes_in, bytes_in}
+use Rattle.path_server.proofs.Recounted.{two_sets}
 use Rattle.path_server.specs.State.{kept_by}
 use Rattle.path_server.proofs.DropLaws.{some_name, some_subdir, few_dropped, tree_dropped, sound_dropped, stored_dropped}
 use Rattle.path_server.proofs.LastLaws.{no_names_in}
-use Rattle.path_server.proofs.NamedLaws.{dir_stored}
+use Rattle.path_server.proofs.NamedLaws.{grown, dir_stored}
 use Rattle.path_server.proofs.NameCallLaws.{removed_is}
 use Rattle.path_server.proofs.tree.PathTree.drop_name.Goals as goal
 
@@ -42,30 +41,32 @@ pub overflow_sub-self : goal.overflow_sub-self
 overflow_sub-self c =
     let s = c.args.self.now in
     let sound = s.sound c.requires.held in
-    let put = insert-two s.nodes.entries c.insert.new.self.entries c.insert-2.new.self.entries c.args.dir.now
-    c.args.node.now c.without_name.result (one_less c.args.kept.kind c.args.within) c.unlinked.result (one_link_less
-    c.args.kept) c.without_name.ensures c.unlinked.ensures c.in-Ok.ensures.entries c.in-Ok-insert.ensures.entries in
+    let put = two_sets (kept_by s).nodes c.args.dir.now c.args.node.now c.set.ensures.nodes c.set-2.ensures.nodes c.without_name.ensures c.unlinked.ensures in
     few_dropped s.limits s.next s.bytes (kept_by s) sound c.args.dir.now c.args.name.now c.args.within
     c.requires.dir.0 c.requires.dir.1 c.args.node.now c.requires.leads c.args.kept c.requires.node.0
-    c.requires.node.1 (from_entries c.insert-2.new.self.entries) put s.names c.remove.new.self refl c.in_ok-remove.ensures.dropped
+    c.requires.node.1 (nodes_in c.set-2.new.self) put (bytes_in c.set-2.new.self)
+    (c.set-2.ensures.bytes ∙ c.set.ensures.bytes) s.names c.remove.new.self refl c.in_ok-remove.ensures.dropped
+
+pub set-requires-2 : goal.set-requires-2
+set-requires-2 c = grown _ _ _ _ _ c.set.ensures.nodes c.requires.node.0
 
 pub invariant_of-self-2 : goal.invariant_of-self-2
 invariant_of-self-2 c =
     let s = c.args.self.now in
     let sound = s.sound c.requires.held in
-    let put = insert-two s.nodes.entries c.insert.new.self.entries c.insert-2.new.self.entries c.args.dir.now
-    c.args.node.now c.without_name.result (one_less c.args.kept.kind c.args.within) c.unlinked.result (one_link_less
-    c.args.kept) c.without_name.ensures c.unlinked.ensures c.in-Ok.ensures.entries c.in-Ok-insert.ensures.entries in
+    let put = two_sets (kept_by s).nodes c.args.dir.now c.args.node.now c.set.ensures.nodes c.set-2.ensures.nodes c.without_name.ensures c.unlinked.ensures in
     record {
       limited = s.limited;
       sound = λ _. sound_dropped s.limits s.next s.bytes (kept_by s) sound c.args.dir.now c.args.name.now c.args.within
           c.requires.dir.0 c.requires.dir.1 c.args.node.now c.requires.leads c.args.kept c.requires.node.0
-          c.requires.node.1 (from_entries c.insert-2.new.self.entries) put s.names c.remove.new.self refl
+          c.requires.node.1 (nodes_in c.set-2.new.self) put (bytes_in c.set-2.new.self)
+          (c.set-2.ensures.bytes ∙ c.set.ensures.bytes) s.names c.remove.new.self refl
           c.in_ok-remove.ensures.dropped;
       stored = λ _. stored_dropped s.limits s.next s.bytes
           (kept_by s) sound c.args.dir.now c.args.name.now c.args.within
           c.requires.dir.0 c.requires.dir.1 c.args.node.now c.requires.leads c.args.kept c.requires.node.0
-          c.requires.node.1 (from_entries c.insert-2.new.self.entries) put s.names c.remove.new.self refl
+          c.requires.node.1 (nodes_in c.set-2.new.self) put (bytes_in c.set-2.new.self)
+          (c.set-2.ensures.bytes ∙ c.set.ensures.bytes) s.names c.remove.new.self refl
           c.in_ok-remove.ensures.dropped (s.stored c.requires.held);
     }
 
@@ -73,12 +74,11 @@ pub returns-clause-ok : goal.returns-clause-ok
 returns-clause-ok c =
     let s = c.args.self.now in
     let sound = s.sound c.requires.held in
-    let put = insert-two s.nodes.entries c.insert.new.self.entries c.insert-2.new.self.entries c.args.dir.now
-    c.args.node.now c.without_name.result (one_less c.args.kept.kind c.args.within) c.unlinked.result (one_link_less
-    c.args.kept) c.without_name.ensures c.unlinked.ensures c.in-Ok.ensures.entries c.in-Ok-insert.ensures.entries in
+    let put = two_sets (kept_by s).nodes c.args.dir.now c.args.node.now c.set.ensures.nodes c.set-2.ensures.nodes c.without_name.ensures c.unlinked.ensures in
     removed_is s.held s.limits s.next s.bytes (kept_by s) s.sound c.args.dir.now c.args.name.now c.args.within
     c.requires.dir c.args.node.now c.requires.leads c.requires.held _
     (tree_dropped s.limits s.next s.bytes (kept_by s) sound c.args.dir.now c.args.name.now c.args.within
     c.requires.dir.0 c.requires.dir.1 c.args.node.now c.requires.leads c.args.kept c.requires.node.0
-    c.requires.node.1 (from_entries c.insert-2.new.self.entries) put s.names c.remove.new.self refl
+    c.requires.node.1 (nodes_in c.set-2.new.self) put (bytes_in c.set-2.new.self)
+    (c.set-2.ensures.bytes ∙ c.set.ensures.bytes) s.names c.remove.new.self refl
     c.in_ok-remove.ensures.dropped c.requires.more)

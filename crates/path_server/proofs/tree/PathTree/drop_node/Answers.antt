@@ -1,11 +1,10 @@
-use Rattle.std.specs.FinMap.{from_entries}
-use Rattle.std.proofs.Common.{refl, arith}
-use Rattle.path_server.specs.Nodes.{one_less}
+use Rattle.std.specs.FinMap.{insert, remove}
+use Rattle.std.proofs.Common.{refl, ap, arith, ◌∙◌}
 use Rattle.path_server.specs.State.{kept_by}
-use Rattle.path_server.proofs.NodeRows.{put-and-remove-rows}
+use Rattle.path_server.specs.Slots.{nodes_in, bytes_in}
 use Rattle.path_server.proofs.DropLaws.{some_name, some_subdir}
 use Rattle.path_server.proofs.LastLaws.{no_names_in, few_last, tree_last, sound_last, stored_last}
-use Rattle.path_server.proofs.NamedLaws.{dir_stored}
+use Rattle.path_server.proofs.NamedLaws.{grown, dir_stored}
 use Rattle.path_server.proofs.NameCallLaws.{removed_is}
 use Rattle.path_server.proofs.tree.PathTree.drop_node.Goals as goal
 
@@ -39,13 +38,13 @@ pub overflow_add-self : goal.overflow_add-self
 overflow_add-self c =
     let s = c.args.self.now in
     let sound = s.sound c.requires.held in
-    let put = put-and-remove-rows s.nodes.entries c.insert.new.self.entries c.remove-2.new.self.entries c.args.dir.now
-    c.without_name.result (one_less c.args.kept.kind c.args.within) c.args.node.now c.without_name.ensures
-    c.in-Ok.ensures.entries c.remove-2.ensures.updates.0 in
+    let put = c.remove-2.ensures.nodes ∙ ap (λ m. remove m c.args.node.now) (c.set.ensures.nodes
+    ∙ ap (insert (kept_by s).nodes c.args.dir.now) c.without_name.ensures) in
+    let bytes = c.remove-2.ensures.bytes ∙ ap (λ m. remove m c.args.node.now) c.set.ensures.bytes in
     let few = few_last
     s.limits s.next s.bytes (kept_by s) sound c.args.node.now c.args.kept c.requires.node c.requires.bare
     c.args.dir.now c.args.name.now c.args.within c.requires.dir.0 c.requires.dir.1 c.requires.leads c.requires.last
-    (from_entries c.remove-2.new.self.entries) put c.remove-3.new.self c.remove-3.ensures s.names c.remove.new.self refl
+    (nodes_in c.remove-2.new.self) put (bytes_in c.remove-2.new.self) bytes s.names c.remove.new.self refl
     c.in_ok-remove.ensures.dropped c.bytes_alone-bytes.result c.bytes_alone-bytes.ensures in
     let most = sound.bytes_most in
     let limited = s.limited in
@@ -55,33 +54,36 @@ pub overflow_sub-self : goal.overflow_sub-self
 overflow_sub-self c =
     let s = c.args.self.now in
     let sound = s.sound c.requires.held in
-    let put = put-and-remove-rows s.nodes.entries c.insert.new.self.entries c.remove-2.new.self.entries c.args.dir.now
-    c.without_name.result (one_less c.args.kept.kind c.args.within) c.args.node.now c.without_name.ensures
-    c.in-Ok.ensures.entries c.remove-2.ensures.updates.0 in
+    let put = c.remove-2.ensures.nodes ∙ ap (λ m. remove m c.args.node.now) (c.set.ensures.nodes
+    ∙ ap (insert (kept_by s).nodes c.args.dir.now) c.without_name.ensures) in
+    let bytes = c.remove-2.ensures.bytes ∙ ap (λ m. remove m c.args.node.now) c.set.ensures.bytes in
     few_last
     s.limits s.next s.bytes (kept_by s) sound c.args.node.now c.args.kept c.requires.node c.requires.bare
     c.args.dir.now c.args.name.now c.args.within c.requires.dir.0 c.requires.dir.1 c.requires.leads c.requires.last
-    (from_entries c.remove-2.new.self.entries) put c.remove-3.new.self c.remove-3.ensures s.names c.remove.new.self refl
+    (nodes_in c.remove-2.new.self) put (bytes_in c.remove-2.new.self) bytes s.names c.remove.new.self refl
     c.in_ok-remove.ensures.dropped c.bytes_alone-bytes.result c.bytes_alone-bytes.ensures
+
+pub remove-requires-2 : goal.remove-requires-2
+remove-requires-2 c = grown _ _ _ _ _ c.set.ensures.nodes c.requires.node
 
 pub invariant_of-self-2 : goal.invariant_of-self-2
 invariant_of-self-2 c =
     let s = c.args.self.now in
     let sound = s.sound c.requires.held in
-    let put = put-and-remove-rows s.nodes.entries c.insert.new.self.entries c.remove-2.new.self.entries c.args.dir.now
-    c.without_name.result (one_less c.args.kept.kind c.args.within) c.args.node.now c.without_name.ensures
-    c.in-Ok.ensures.entries c.remove-2.ensures.updates.0 in
+    let put = c.remove-2.ensures.nodes ∙ ap (λ m. remove m c.args.node.now) (c.set.ensures.nodes
+    ∙ ap (insert (kept_by s).nodes c.args.dir.now) c.without_name.ensures) in
+    let bytes = c.remove-2.ensures.bytes ∙ ap (λ m. remove m c.args.node.now) c.set.ensures.bytes in
     record {
       limited = s.limited;
       sound = λ _. sound_last
           s.limits s.next s.bytes (kept_by s) sound c.args.node.now c.args.kept c.requires.node c.requires.bare
           c.args.dir.now c.args.name.now c.args.within c.requires.dir.0 c.requires.dir.1 c.requires.leads c.requires.last
-          (from_entries c.remove-2.new.self.entries) put c.remove-3.new.self c.remove-3.ensures s.names c.remove.new.self refl
+          (nodes_in c.remove-2.new.self) put (bytes_in c.remove-2.new.self) bytes s.names c.remove.new.self refl
           c.in_ok-remove.ensures.dropped c.bytes_alone-bytes.result c.bytes_alone-bytes.ensures;
       stored = λ _. stored_last
           s.limits s.next s.bytes (kept_by s) sound c.args.node.now c.args.kept c.requires.node c.requires.bare
           c.args.dir.now c.args.name.now c.args.within c.requires.dir.0 c.requires.dir.1 c.requires.leads c.requires.last
-          (from_entries c.remove-2.new.self.entries) put c.remove-3.new.self c.remove-3.ensures s.names c.remove.new.self refl
+          (nodes_in c.remove-2.new.self) put (bytes_in c.remove-2.new.self) bytes s.names c.remove.new.self refl
           c.in_ok-remove.ensures.dropped (s.stored c.requires.held);
     }
 
@@ -89,13 +91,13 @@ pub returns-clause-ok : goal.returns-clause-ok
 returns-clause-ok c =
     let s = c.args.self.now in
     let sound = s.sound c.requires.held in
-    let put = put-and-remove-rows s.nodes.entries c.insert.new.self.entries c.remove-2.new.self.entries c.args.dir.now
-    c.without_name.result (one_less c.args.kept.kind c.args.within) c.args.node.now c.without_name.ensures
-    c.in-Ok.ensures.entries c.remove-2.ensures.updates.0 in
+    let put = c.remove-2.ensures.nodes ∙ ap (λ m. remove m c.args.node.now) (c.set.ensures.nodes
+    ∙ ap (insert (kept_by s).nodes c.args.dir.now) c.without_name.ensures) in
+    let bytes = c.remove-2.ensures.bytes ∙ ap (λ m. remove m c.args.node.now) c.set.ensures.bytes in
     removed_is s.held s.limits s.next s.bytes (kept_by s) s.sound c.args.dir.now c.args.name.now c.args.within
     c.requires.dir c.args.node.now c.requires.leads c.requires.held _
     (tree_last
     s.limits s.next s.bytes (kept_by s) sound c.args.node.now c.args.kept c.requires.node c.requires.bare
     c.args.dir.now c.args.name.now c.args.within c.requires.dir.0 c.requires.dir.1 c.requires.leads c.requires.last
-    (from_entries c.remove-2.new.self.entries) put c.remove-3.new.self c.remove-3.ensures s.names c.remove.new.self refl
+    (nodes_in c.remove-2.new.self) put (bytes_in c.remove-2.new.self) bytes s.names c.remove.new.self refl
     c.in_ok-remove.ensures.dropped)

@@ -16,4 +16,4 @@ returns-in-Ok c =
     let s = c.args.self.now in
     read-ok s.held s.limits s.next s.bytes (kept_by s) s.sound c.args.file.now c.in_ok-find.field-0 c.in-Ok.copy
     c.args.offset c.args.count c.in_ok-find.ensures
-    (c.in-Ok.ensures.items ∙ c.part-bytes.ensures ∙ ap (λ b. take c.args.count (drop c.args.offset b)) c.get.ensures)
+    (c.in-Ok.ensures.items ∙ c.part-bytes.ensures ∙ ap (λ b. take c.args.count (drop c.args.offset b)) c.bytes.ensures)

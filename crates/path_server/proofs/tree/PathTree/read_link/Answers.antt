@@ -15,4 +15,4 @@ pub returns-in-Ok : goal.returns-in-Ok
 returns-in-Ok c =
     let s = c.args.self.now in
     read_link-ok s.held s.limits s.next s.bytes (kept_by s) s.sound c.args.link.now c.in_ok-find.field-0 c.in-Ok.copy
-    c.in_ok-find.ensures (c.in-Ok.ensures.items ∙ c.get.ensures)
+    c.in_ok-find.ensures (c.in-Ok.ensures.items ∙ c.bytes.ensures)

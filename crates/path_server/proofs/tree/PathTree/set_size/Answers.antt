@@ -22,14 +22,14 @@ overflow_sub-self c =
     let s = c.args.self.now in
     let few = few_bytes s.limits s.next s.bytes (kept_by s) (s.sound (is_held s.held (the_tree (kept_by s))
     c.requires.tree)) c.args.file.now c.in_ok-find.field-0 c.in_ok-find.ensures.0 c.in_ok-find.ensures.1 in
-    let same = ap length c.get-len.ensures in
+    let same = ap length c.bytes-len.ensures in
     omega (arith, few, same)
 
 pub returns-then-self-len : goal.returns-then-self-len
 returns-then-self-len c =
     let s = c.args.self.now in
     let over = c.if-self-len.true in
-    let same = ap length c.get-len.ensures in
+    let same = ap length c.bytes-len.ensures in
     set_size-full s.held s.limits s.next s.bytes (kept_by s) s.sound c.args.file.now c.in_ok-find.field-0
     c.in_ok-find.ensures c.args.size (omega (arith, over, same))
 
@@ -38,7 +38,7 @@ change-requires-clause-file c = is_some_and
     (λ (p : PathNode). p.kind ≡ File) c.in_ok-find.ensures.0 c.in_ok-find.ensures.1
 
 pub change-requires-clause-room : goal.change-requires-clause-room
-change-requires-clause-room c = let room = c.if-self-len.false in let same = ap length c.get-len.ensures in
+change-requires-clause-room c = let room = c.if-self-len.false in let same = ap length c.bytes-len.ensures in
     omega (arith, room, same)
 
 pub returns-in-Ok : goal.returns-in-Ok

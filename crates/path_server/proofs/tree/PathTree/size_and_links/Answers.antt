@@ -6,7 +6,7 @@ use Rattle.path_server.proofs.tree.PathTree.size_and_links.Goals as goal
 pub overflow_cast-result : goal.overflow_cast-result
 overflow_cast-result c =
     let s = c.args.self.now in
-    let same = ap length c.get.ensures in
+    let same = ap length c.bytes.ensures in
     let most = (s.sound c.requires.held).bytes_most in
     let limited = s.limited in
     elim c.in-File.is [

@@ -23,15 +23,15 @@ overflow_sub-self c =
     let s = c.args.self.now in
     let few = few_bytes s.limits s.next s.bytes (kept_by s) (s.sound (is_held s.held (the_tree (kept_by s))
     c.requires.tree)) c.args.file.now c.in_ok-find.field-0 c.in_ok-find.ensures.0 c.in_ok-find.ensures.1 in
-    let same = ap length c.get-len.ensures in
+    let same = ap length c.bytes-len.ensures in
     omega (arith, few, same)
 
 pub returns-then-self-len : goal.returns-then-self-len
 returns-then-self-len c =
     let s = c.args.self.now in
     let over = c.if-self-len.true in
-    let same = ap length c.get-len.ensures in
-    let size = c.max-size.ensures ∙ ord_max_is (length c.get-len.result.now)
+    let same = ap length c.bytes-len.ensures in
+    let size = c.max-size.ensures ∙ ord_max_is (length c.bytes-len.result.now)
     (c.args.offset + length c.args.piece.now) in
     write-full s.held s.limits s.next s.bytes (kept_by s) s.sound c.args.file.now c.in_ok-find.field-0
     c.in_ok-find.ensures c.args.offset c.args.piece.now (omega (arith, over, same, size))
@@ -41,14 +41,14 @@ change-requires-clause-file c = is_some_and
     (λ (p : PathNode). p.kind ≡ File) c.in_ok-find.ensures.0 c.in_ok-find.ensures.1
 
 pub change-requires-clause-room : goal.change-requires-clause-room
-change-requires-clause-room c = let room = c.if-self-len.false in let same = ap length c.get-len.ensures in
+change-requires-clause-room c = let room = c.if-self-len.false in let same = ap length c.bytes-len.ensures in
     omega (arith, room, same)
 
 pub returns-in-Ok : goal.returns-in-Ok
 returns-in-Ok c =
     let s = c.args.self.now in
-    let same = ap length c.get-len.ensures in
-    let size = c.max-size.ensures ∙ ord_max_is (length c.get-len.result.now)
+    let same = ap length c.bytes-len.ensures in
+    let size = c.max-size.ensures ∙ ord_max_is (length c.bytes-len.result.now)
     (c.args.offset + length c.args.piece.now) in
     write-ok s.held s.limits s.next s.bytes (kept_by s) s.sound c.args.file.now c.in_ok-find.field-0
     c.in_ok-find.ensures _ c.change.new.self.limits c.in-Ok.ensures.limits

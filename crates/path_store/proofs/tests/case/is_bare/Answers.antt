@@ -8,7 +8,7 @@ pub returns-then-is_none : goal.returns-then-is_none
 returns-then-is_none c = λ _ name. sym (got_none c.args.store.now c.store.inside.whole c.store.inside.keys
     c.store.inside.rows c.store.inside.dirs
     c.store.view_is c.store.invariant c.requires
-    c.args.dir.now name c.told-dir (sym c.get.ensures
+    c.args.dir.now name c.told-dir (sym c.get.ensures.value
     ∙ ap option_copied (none_of c.get.result (c.is_none.ensures ∙ ap not c.if-is_none.true))))
 
 pub returns-in-Ok : goal.returns-in-Ok
