@@ -1,8 +1,11 @@
 //! The service over a path server, and over one that does no more than it must: each call gives what the plain machine
 //! gives, with each refusal and each effect of RFC 1094, 2.2.
 
+ghost use Rattle.std.specs.Prelude.{◌≤◌};
+
 mod dirs;
 mod files;
+mod many;
 mod moves;
 mod names;
 mod service;
@@ -53,8 +56,10 @@ fn names_and_moves(alloc: Global, first: Srv, second: Srv) -> Result<(), Fail> {
 }
 
 /// A path server.
-fn path_server(alloc: Global) -> Result<PathServer, Fail> {
-    match PathServer::new(alloc, LIMITS) {
+fn path_server(alloc: Global, limits: ServerLimits) -> Result<PathServer, Fail>
+    requires { limits.bytes ≤ 1073741824 }
+{
+    match PathServer::new(alloc, limits) {
         Ok(server) => Ok(server),
         Err(_) => Err("no memory".into()),
     }
@@ -63,21 +68,44 @@ fn path_server(alloc: Global) -> Result<PathServer, Fail> {
 #[test]
 fn over_a_path_server(rt: HostRuntime) -> Result<(), Fail> {
     let alloc = rt.alloc();
-    directories(alloc, Box::new(alloc, path_server(alloc)?)?)?;
-    files_and_links(alloc, Box::new(alloc, path_server(alloc)?)?)?;
-    let second = Box::new(alloc, path_server(alloc)?)?;
-    names_and_moves(alloc, Box::new(alloc, path_server(alloc)?)?, second)
+    directories(alloc, Box::new(alloc, path_server(alloc, LIMITS)?)?)?;
+    files_and_links(alloc, Box::new(alloc, path_server(alloc, LIMITS)?)?)?;
+    let second = Box::new(alloc, path_server(alloc, LIMITS)?)?;
+    names_and_moves(alloc, Box::new(alloc, path_server(alloc, LIMITS)?)?, second)
 }
 
 #[test]
 fn over_a_reluctant_server(rt: HostRuntime) -> Result<(), Fail> {
     let alloc = rt.alloc();
-    directories(alloc, Box::new(alloc, Reluctant::new(path_server(alloc)?))?)?;
-    files_and_links(alloc, Box::new(alloc, Reluctant::new(path_server(alloc)?))?)?;
-    let second = Box::new(alloc, Reluctant::new(path_server(alloc)?))?;
+    directories(
+        alloc,
+        Box::new(alloc, Reluctant::new(path_server(alloc, LIMITS)?))?,
+    )?;
+    files_and_links(
+        alloc,
+        Box::new(alloc, Reluctant::new(path_server(alloc, LIMITS)?))?,
+    )?;
+    let second = Box::new(alloc, Reluctant::new(path_server(alloc, LIMITS)?))?;
     names_and_moves(
         alloc,
-        Box::new(alloc, Reluctant::new(path_server(alloc)?))?,
+        Box::new(alloc, Reluctant::new(path_server(alloc, LIMITS)?))?,
         second,
     )
+}
+
+#[test]
+fn many_names_and_a_long_chain(rt: HostRuntime) -> Result<(), Fail> {
+    let alloc = rt.alloc();
+    let roomy = ServerLimits {
+        nodes: 515,
+        bytes: 2_097_152,
+    };
+    let server: Srv = Box::new(alloc, path_server(alloc, roomy)?)?;
+    let mut service = Service::with_room(alloc, server, 512, 1_048_576)?;
+    many::filled(alloc, &mut service)?;
+    // The names, "." and "..".
+    assert_eq!(rt; many::paged(alloc, &mut service, 512)?, 302);
+    many::chained(alloc, &mut service, 301)?;
+    assert_eq!(rt; many::paged(alloc, &mut service, 4096)?, 303);
+    Ok(())
 }

@@ -106,28 +106,39 @@ pub struct Service {
 
 impl Service {
     /// Both at their beginning, with sixteen entries.
-    pub fn new(alloc: Global, mut server: Srv) -> Result<Service, Fail>
+    pub fn new(alloc: Global, server: Srv) -> Result<Service, Fail>
+        ensures { IfOk result (λ s. IsReady s.limits (⟦<Srv as FileServer>⟧.state s.server) s.table) }
+    {
+        Service::with_room(alloc, server, 16, 65536)
+    }
+
+    /// Both at their beginning, with so many entries, and room for so many bytes.
+    pub fn with_room(alloc: Global, mut server: Srv, n: u32, t: u32) -> Result<Service, Fail>
+        requires some { 1 ≤ n }
+        requires few { n ≤ 4096 }
+        requires least { 512 ≤ t }
+        requires most { t ≤ 16777216 }
         ensures { IfOk result (λ s. IsReady s.limits (⟦<Srv as FileServer>⟧.state s.server) s.table) }
     {
         let limits = Limits {
-            n: 16,
+            n,
             k: 1024,
-            t: 65536,
+            t,
             f: 0,
         };
         let most = server.limits();
-        if most.nodes < 19 || most.bytes < 65536 + 1048576 {
+        if most.nodes < n + 3 || most.bytes < u64::from(t) + 1048576 {
             return Err("a small server".into());
         }
         let mut table = ConfTable::empty(alloc);
-        match fresh(alloc, &mut server, &mut table, 16) {
+        match fresh(alloc, &mut server, &mut table, n) {
             Ok(()) => {}
             Err(_) => return Err("the server failed".into()),
         }
         Ok(Service {
             server,
             table,
-            array: AbsArray::empty(alloc, 16)?,
+            array: AbsArray::empty(alloc, n)?,
             limits,
             calls: 0,
         })
