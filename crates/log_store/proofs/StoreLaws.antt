@@ -1,5 +1,5 @@
 -- What each record that a store writes does to the tree, and what it reads.
-use Rattle.std.proofs.Common.{◌≡◌, ◌∙◌, ◌+◌, ◌-◌, ◌*◌, ◌++◌, ◌<◌, ◌≤◌, ℕ, List, [], Some, None, false, length, take, drop, get_or, refl, ap, arith}
+use Rattle.std.proofs.Common.{◌≡◌, ◌∙◌, sym, cond, ◌+◌, ◌-◌, ◌*◌, ◌++◌, ◌<◌, ◌≤◌, ℕ, List, [], Some, None, false, length, take, drop, get_or, refl, ap, arith}
 use Rattle.std.specs.Prelude.{option_map}
 use Rattle.std.proofs.lemmas.List.{length-append, length-take, length-drop, take_all}
 use Rattle.std.specs.FinMap.{get}
@@ -7,7 +7,7 @@ use Rattle.std.specs.Int.{to_be_bytes, from_be_bytes, w32, w64}
 use Rattle.server_trait.specs.Tree.{Node}
 use Rattle.server_trait.specs.Tree.{named, unnamed, with_node, without_node}
 use Rattle.log_segments.specs.Newest.{after, find}
-use Rattle.log_segments.specs.Record.{is_end, key_of}
+use Rattle.log_segments.specs.Record.{is_end, is_gone, key_of}
 use Rattle.log_records.specs.declared.node.NodeRecord.{NodeRecord}
 use Rattle.log_records.specs.Layout.{node_key, name_key, chunk_key, key_size, value_of, node_in, child_in, chunk_in}
 use Rattle.log_records.specs.Laws.{NodeFits}
@@ -15,9 +15,11 @@ use Rattle.log_records.specs.Spelling.{record_of, node_value, chunk_value}
 use Rattle.log_records.proofs.Again.{parts_again, node_again, child_again, chunk_again}
 use Rattle.log_tree.specs.Held.{Records, handle_of, id_of, name_view, names_of, bytes_from, content_of, node_of, tree_of}
 use Rattle.log_tree.specs.Laws.{IsOfNode}
-use Rattle.log_store.specs.Store.{HasBefore, PutsChunk, DropsChunk, NodeIs, PutsNode, node_with}
+use Rattle.log_store.specs.Store.{KeepsOthers, HasBefore, PutsChunk, DropsChunk, NodeIs, PutsNode, node_with}
 use Rattle.log_tree.proofs.Views.{find-key, get-view, name_back, names_inverse}
-use Rattle.log_tree.proofs.TreeLaws.{node_at-id}
+use Rattle.log_tree.proofs.TreeLaws.{apart, find-other, node_at-id}
+use Rattle.log_segments.proofs.Finds.{find-after}
+use Rattle.std.proofs.lemmas.Slice.Eq.{bytes_eq-Decides}
 use Rattle.log_tree.proofs.StepLaws.{of_node, name_laws, chunk_laws}
 
 -- the key of a record that has one shorter than the block
@@ -25,6 +27,14 @@ pub key_size_is : (b key : List ℕ) → length b ≡ 512 → key_of b ≡ key �
 unfolding key_of
 key_size_is b key long is few =
     omega (arith, ap length is, length-take (256 * get_or b 1 0 + get_or b 2 0) (drop 3 b), length-drop 3 b)
+
+-- a record that is put is found
+found_now : (live : Records) (block key : List ℕ) → key_of block ≡ key
+    → find key (after live block) ≡ cond (is_gone block) None (Some block)
+found_now live block key is =
+    find-after live block key
+    ∙ ap (λ b. cond b (cond (is_gone block) None (Some block)) (find key live)) ((bytes_eq-Decides
+    (key_of block) key).1 is)
 
 -- NAMES
 
@@ -154,7 +164,11 @@ chunk_put live id place bytes eight few most below =
     (chunk_value bytes)) id place eight few p.key_is below in
     let read : chunk_in (value_of (record_of 2 (chunk_key id place) (chunk_value bytes)))
     ≡ bytes = ap chunk_in p.value_is ∙ chunk_again bytes _ in
+    let block = record_of 2 (chunk_key id place) (chunk_value bytes) in
     record {
+      here = ap (option_map (λ r. chunk_in (value_of r)))
+          (found_now live block (chunk_key id place) p.key_is ∙ ap (λ g. cond g None (Some block)) p.gone_is)
+          ∙ ap Some read;
       bytes_are = laws.puts p.gone_is ∙ ap (λ b. bytes_from place live id 0 ++ (b ++ bytes_from
           (17476 - place) live id (place + 1))) read;
       file = laws.file;
@@ -168,10 +182,46 @@ pub chunk_dropped : (live : Records) (id : List ℕ) (place : ℕ) → length id
 chunk_dropped live id place eight few below =
     let p = parts_again 1 (chunk_key id place) [] (chunk_gone_fits id place eight) in
     let laws = chunk_laws live (record_of 1 (chunk_key id place) []) id place eight few p.key_is below in
-    record { bytes_are = laws.takes p.gone_is; file = laws.file }
+    let block = record_of 1 (chunk_key id place) [] in
+    record {
+      here = found_now live block (chunk_key id place) p.key_is ∙ ap (λ g. cond g None (Some block)) p.gone_is;
+      bytes_are = laws.takes p.gone_is;
+      file = laws.file;
+    }
 
 pub chunk_size : (live : Records) (id : List ℕ) (place : ℕ) (b : List ℕ) → length id ≡ 8 → length b ≡ 512
     → find (chunk_key id place) live ≡ Some b → key_size b + 2 ≤ 509
 chunk_size live id place b eight long is =
     let whole = length-append id (to_be_bytes w32 place) in
     omega (arith, key_size_is b (chunk_key id place) long (find-key (chunk_key id place) live b is) (omega arith))
+
+-- WHAT STAYS
+
+-- other keys are found as before
+pub keeps_others : (live : Records) (block key : List ℕ) → key_of block ≡ key → KeepsOthers live key (after live block)
+keeps_others live block key is k ne = find-other live block k (apart (key_of block) k (λ e. ne (sym e ∙ is)))
+
+pub name_key_is : (dir name child : List ℕ) → length dir ≡ 8 → length name ≤ 255 → length child ≡ 8
+    → key_of (record_of 2 (name_key dir name) child) ≡ name_key dir name
+name_key_is dir name child eight few one =
+    (parts_again 2 (name_key dir name) child (name_fits dir name child eight few one)).key_is
+
+pub name_gone_key : (dir name : List ℕ) → length dir ≡ 8 → length name ≤ 255
+    → key_of (record_of 1 (name_key dir name) []) ≡ name_key dir name
+name_gone_key dir name eight few = (parts_again 1 (name_key dir name) [] (gone_fits dir name eight few)).key_is
+
+pub node_key_is : (id : List ℕ) (n : NodeRecord) → length id ≡ 8
+    → key_of (record_of 2 (node_key id) (node_value n)) ≡ node_key id
+node_key_is id n eight = (parts_again 2 (node_key id) (node_value n) (node_fits id n eight)).key_is
+
+pub node_gone_key : (id : List ℕ) → length id ≡ 8 → key_of (record_of 1 (node_key id) []) ≡ node_key id
+node_gone_key id eight = (parts_again 1 (node_key id) [] (omega arith)).key_is
+
+pub chunk_key_is : (id : List ℕ) (place : ℕ) (bytes : List ℕ) → length id ≡ 8 → length bytes ≤ 480
+    → key_of (record_of 2 (chunk_key id place) (chunk_value bytes)) ≡ chunk_key id place
+chunk_key_is id place bytes eight most =
+    (parts_again 2 (chunk_key id place) (chunk_value bytes) (chunk_fits id place bytes eight most)).key_is
+
+pub chunk_gone_key : (id : List ℕ) (place : ℕ) → length id ≡ 8
+    → key_of (record_of 1 (chunk_key id place) []) ≡ chunk_key id place
+chunk_gone_key id place eight = (parts_again 1 (chunk_key id place) [] (chunk_gone_fits id place eight)).key_is

@@ -1,5 +1,5 @@
 -- What a store of nodes, names and chunks says of its log.
-use Rattle.std.specs.Prelude.{◌≡◌, ◌+◌, ◌-◌, ◌++◌, ◌<◌, ℕ, List, length, Option, Some, IsSome, option_map, Result, OnOk, OnErr}
+use Rattle.std.specs.Prelude.{◌≡◌, ◌≢◌, ◌+◌, ◌-◌, ◌++◌, ◌<◌, ℕ, List, length, Option, Some, None, IsSome, option_map, Result, OnOk, OnErr}
 use Rattle.std.specs.Int.{from_be_bytes, w64}
 use Rattle.nfs2_types.specs.declared.fattr.Kind.TheVariants.{File}
 use Rattle.outside.specs.Causes.{WriteHasCause}
@@ -8,7 +8,7 @@ use Rattle.server_trait.specs.Tree.{Node, Tree, Content, node_at, with_node, edi
 use Rattle.log_segments.specs.Failures.{MayPut}
 use Rattle.log_segments.specs.Newest.{find}
 use Rattle.log_segments.specs.Segments.{IsLog, live_of, half_of, medium_of as log_medium}
-use Rattle.log_records.specs.Layout.{node_key, chunk_key, value_of, node_in}
+use Rattle.log_records.specs.Layout.{node_key, chunk_key, value_of, node_in, chunk_in}
 use Rattle.log_records.specs.declared.node.NodeRecord.{NodeRecord}
 use Rattle.log_tree.specs.Held.{Records, handle_of, bytes_from, bytes_of, content_of, tree_of}
 use Rattle.log_store.specs.declared.store.LogStore.{LogStore}
@@ -54,6 +54,10 @@ pub record Reads {M T : Type 0} (content : M → ℕ → List ℕ) (size faults 
 abbrev pub node_with : ℕ → NodeRecord → Content → Node
 node_with number n content = record { number = number; mode = n.mode; uid = n.uid; gid = n.gid; content = content }
 
+-- all keys but one are found as before
+abbrev pub KeepsOthers : Records → List ℕ → Records → Type 0
+KeepsOthers live key new = (k : List ℕ) → k ≢ key → find k new ≡ find k live
+
 -- all chunks before a place are there
 abbrev pub HasBefore : Records → List ℕ → ℕ → Type 0
 HasBefore live id place = (p : ℕ) → p < place → IsSome (find (chunk_key id p) live)
@@ -66,12 +70,14 @@ HasOtherBytes live id new = (node : List ℕ) → find (node_key id) live ≡ So
 
 -- bytes stand at a place among the chunks of a node, in the place of the chunk that was there
 pub record PutsChunk (live : Records) (id : List ℕ) (place : ℕ) (bytes : List ℕ) (new : Records) : Type 0 where
+  pub here : option_map (λ r. chunk_in (value_of r)) (find (chunk_key id place) new) ≡ Some bytes
   pub bytes_are : bytes_of new id
       ≡ bytes_from place live id 0 ++ (bytes ++ bytes_from (17476 - place) live id (place + 1))
   pub file : HasOtherBytes live id new
 
 -- the bytes of a node end before a place
 pub record DropsChunk (live : Records) (id : List ℕ) (place : ℕ) (new : Records) : Type 0 where
+  pub here : find (chunk_key id place) new ≡ None
   pub bytes_are : bytes_of new id ≡ bytes_from place live id 0
   pub file : HasOtherBytes live id new
 

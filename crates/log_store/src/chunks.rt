@@ -2,8 +2,9 @@
 
 ghost use Rattle.std.specs.Prelude.{◌≡◌, ◌≤◌, ◌<◌, length, option_map, IfOk, OnOk};
 ghost use Rattle.log_segments.specs.Newest.{find};
-ghost use Rattle.log_records.specs.Layout.{chunk_key, value_of, chunk_in};
-ghost use Rattle.log_store.specs.Store.{IsStore, HasRoom, HasBefore, PutsChunk, DropsChunk, Reads, Writes, live_in};
+ghost use Rattle.log_records.specs.Layout as layout;
+ghost use Rattle.log_records.specs.Layout.{value_of, chunk_in};
+ghost use Rattle.log_store.specs.Store.{IsStore, HasRoom, HasBefore, KeepsOthers, PutsChunk, DropsChunk, Reads, Writes, live_in};
 
 use crate::store::LogStore;
 use log_records::{NodeId, chunk_key, chunk_record, gone_record, read_chunk};
@@ -14,7 +15,7 @@ impl<M: Medium> LogStore<M> {
     pub fn chunk(&mut self, id: &NodeId, place: u32) -> Result<Option<Vec<u8>>, MediumErr>
         requires { IsStore M.content M.size self.old }
         ensures found { let live = live_in M.content M.size self.old in
-            let chunk = option_map (λ r. chunk_in (value_of r)) (find (chunk_key id.now place) live) in
+            let chunk = option_map (λ r. chunk_in (value_of r)) (find (layout.chunk_key id.now place) live) in
             IfOk result (λ found. option_map (λ bytes. bytes.items) found ≡ chunk) }
         ensures reads { Reads M.content M.size M.faults self.old self.new result }
     {
@@ -34,6 +35,8 @@ impl<M: Medium> LogStore<M> {
         requires bytes { length bytes.now ≤ 480 }
         ensures puts { let live = live_in M.content M.size in
             OnOk result (PutsChunk (live self.old) id.now place bytes.now (live self.new)) }
+        ensures others { let live = live_in M.content M.size in
+            OnOk result (KeepsOthers (live self.old) (layout.chunk_key id.now place) (live self.new)) }
         ensures writes { Writes M.content M.size M.faults self.old self.new result }
     {
         self.put(&chunk_record(id, place, bytes))?;
@@ -48,6 +51,8 @@ impl<M: Medium> LogStore<M> {
         requires before { HasBefore (live_in M.content M.size self.old) id.now place }
         ensures drops { let live = live_in M.content M.size in
             OnOk result (DropsChunk (live self.old) id.now place (live self.new)) }
+        ensures others { let live = live_in M.content M.size in
+            OnOk result (KeepsOthers (live self.old) (layout.chunk_key id.now place) (live self.new)) }
         ensures writes { Writes M.content M.size M.faults self.old self.new result }
     {
         let key = chunk_key(self.alloc, id, place)?;

@@ -1,8 +1,9 @@
 use Rattle.std.proofs.Common.{ap, subst, sym, ◌∙◌}
 use Rattle.log_segments.specs.Newest.{after}
 use Rattle.log_records.specs.declared.node.NodeRecord.{NodeRecord}
-use Rattle.log_store.specs.Store.{PutsNode, live_in}
-use Rattle.log_store.proofs.StoreLaws.{node_stands, node_put}
+use Rattle.log_records.specs.Layout.{node_key}
+use Rattle.log_store.specs.Store.{KeepsOthers, PutsNode, live_in}
+use Rattle.log_store.proofs.StoreLaws.{node_stands, node_put, keeps_others, node_key_is}
 use Rattle.log_store.proofs.store.LogStore.put_node.Goals as goal
 
 pub put-requires-clause-stands : goal.put-requires-clause-stands
@@ -20,3 +21,10 @@ returns-clause-puts g c =
       gid =
           c.ranges.gid.fits;
     }))
+
+pub returns-clause-others : goal.returns-clause-others
+returns-clause-others g c =
+    let live = live_in g.M.Medium.content g.M.Medium.size c.args.self.now in
+    subst (KeepsOthers live (node_key c.args.id.now)) (sym (c.in_ok-put.ensures.live
+    ∙ ap (after live) c.node_record.ensures))
+    (keeps_others live _ (node_key c.args.id.now) (node_key_is c.args.id.now _ c.told-id))
