@@ -1,0 +1,30 @@
+-- How the bytes of a file, or of a link's text, stand in chunks.
+use Rattle.std.specs.Prelude.{◌≡◌, ◌+◌, ◌-◌, ◌*◌, ◌/◌, ◌%◌, ◌≤◌, ◌<◌, ◌^◌, ℕ, List, [], length, take, min, max, Option, None, Some, IsSomeAnd}
+use Rattle.nfs2_types.specs.Bytes.{overwritten}
+use Rattle.log_segments.specs.Newest.{find}
+use Rattle.log_records.specs.Layout.{chunk_key, value_of, chunk_in}
+use Rattle.log_tree.specs.Held.{Records, bytes_of}
+use Rattle.log_store.specs.Store.{HasOtherBytes, KeepsOthers}
+
+-- so many bytes stand in chunks of 480, of which the last may have fewer
+pub record IsChunked (live : Records) (id : List ℕ) (size : ℕ) : Type 0 where
+  pub few : size ≤ 8388608
+  pub there : (p : ℕ) → 480 * p < size →
+      IsSomeAnd (find (chunk_key id p) live) (λ r. length (chunk_in (value_of r)) ≡ min 480 (size - 480 * p))
+  pub absent : (p : ℕ) → size ≤ 480 * p → p < 2 ^ 32 → find (chunk_key id p) live ≡ None
+
+-- a chunk's bytes, or none where it is not there
+abbrev pub bytes_in : Option (List ℕ) → List ℕ
+bytes_in None = []
+bytes_in (Some r) = chunk_in (value_of r)
+
+-- some bytes of a piece, at least one, up to the end of a chunk, stand at an offset; another node contains what it
+-- contained
+pub record WroteBytes (live new : Records) (id : List ℕ) (size offset : ℕ) (piece : List ℕ) (count : ℕ) : Type 0 where
+  pub some : 1 ≤ count
+  pub most : count ≤ length piece
+  pub ends : count ≡ min (length piece) (480 - offset % 480)
+  pub bytes_are : bytes_of new id ≡ overwritten offset (take count piece) (bytes_of live id)
+  pub chunked : IsChunked new id (max size (offset + count))
+  pub file : HasOtherBytes live id new
+  pub others : KeepsOthers live (chunk_key id (offset / 480)) new

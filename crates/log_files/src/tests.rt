@@ -1,0 +1,36 @@
+//! A piece that is longer than a chunk, over any medium and at one in memory.
+
+ghost use Rattle.std.specs.Prelude.{◌≤◌, OnOk};
+ghost use Rattle.log_segments.specs.Segments.{half_size};
+ghost use Rattle.log_store.specs.Store.{IsStore, medium_of};
+
+use super::*;
+use log_records::NodeId;
+use log_store::LogStore;
+use outside::{Medium, MediumErr, MemMedium};
+use std::alloc::Global;
+use std::test::Fail;
+
+const FILE: NodeId = [0, 0, 0, 0, 0, 0, 0, 2];
+
+/// Writes 700 bytes to an empty store.
+fn first_write<M: Medium>(alloc: Global, store: &mut LogStore<M>) -> Result<u32, MediumErr>
+    requires { 3 ≤ half_size (M.size (medium_of store.old)) }
+    ensures { OnOk result (IsStore M.content M.size store.new) }
+{
+    store.clear()?;
+    let count = write_bytes(alloc, store, &FILE, 0, 0, &[7; 700])?;
+    Ok(count)
+}
+
+#[test]
+fn a_write_ends_with_its_chunk(rt: HostRuntime) -> Result<(), Fail> {
+    let alloc = rt.alloc();
+    let mut store = LogStore::new(alloc, MemMedium::new(alloc, 41, Vec::new(alloc)));
+    assert_eq!(rt; first_write(alloc, &mut store)?, 480);
+    assert!(rt;
+        matches!(store.chunk(&FILE, 0)?, Some(bytes) if bytes.as_slice() == [7; 480].as_slice())
+    );
+    assert!(rt; store.chunk(&FILE, 1)?.is_none());
+    Ok(())
+}
