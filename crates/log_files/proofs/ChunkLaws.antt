@@ -28,7 +28,7 @@ take_behind [] rest n k is = let e : n ≡ k = omega arith in ap (λ m. take m r
 take_behind (x ∷ front) rest zero k is = absurd (omega arith)
 take_behind (x ∷ front) rest (suc n) k is = ap (λ xs. x ∷ xs) (take_behind front rest n k (omega arith))
 
-drop_behind : (front rest : List ℕ) (n k : ℕ) → n ≡ length front + k → drop n (front ++ rest) ≡ drop k rest
+pub drop_behind : (front rest : List ℕ) (n k : ℕ) → n ≡ length front + k → drop n (front ++ rest) ≡ drop k rest
 drop_behind [] rest n k is = let e : n ≡ k = omega arith in ap (λ m. drop m rest) e
 drop_behind (x ∷ front) rest zero k is = absurd (omega arith)
 drop_behind (x ∷ front) rest (suc n) k is = drop_behind front rest n k (omega arith)
@@ -89,7 +89,7 @@ length-front live id size h (suc i) p within =
     ] (h.there p (omega arith))
 
 -- nothing stands behind the last chunk
-none_behind : (live : Records) (id : List ℕ) (most p : ℕ) → find (chunk_key id p) live ≡ None
+pub none_behind : (live : Records) (id : List ℕ) (most p : ℕ) → find (chunk_key id p) live ≡ None
     → bytes_from most live id p ≡ []
 unfolding bytes_from
 none_behind live id zero p none = refl
@@ -103,7 +103,7 @@ has_before live id size place h within p below =
     [ None ↦ (λ w. absurd w) | Some r ↦ (λ w. refl) ] (h.there p (omega arith))
 
 -- a number is below another or not
-below_or_not : (a b : ℕ) → (a < b) ⊎ (b ≤ a)
+pub below_or_not : (a b : ℕ) → (a < b) ⊎ (b ≤ a)
 below_or_not a zero = inr (omega arith)
 below_or_not zero (suc b) = inl (omega arith)
 below_or_not (suc a) (suc b) = elim (below_or_not a b) as (λ _. (suc a < suc b) ⊎ (suc b ≤ suc a)) [

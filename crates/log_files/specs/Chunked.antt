@@ -1,5 +1,5 @@
 -- How the bytes of a file, or of a link's text, stand in chunks.
-use Rattle.std.specs.Prelude.{◌≡◌, ◌+◌, ◌-◌, ◌*◌, ◌/◌, ◌%◌, ◌≤◌, ◌<◌, ◌^◌, ℕ, List, [], length, take, min, max, Option, None, Some, IsSomeAnd}
+use Rattle.std.specs.Prelude.{◌≡◌, ◌+◌, ◌-◌, ◌*◌, ◌/◌, ◌%◌, ◌≤◌, ◌<◌, ◌^◌, ℕ, List, [], length, take, min, max, Option, None, Some, IsSome, IsSomeAnd}
 use Rattle.nfs2_types.specs.Bytes.{overwritten}
 use Rattle.log_segments.specs.Newest.{find}
 use Rattle.log_records.specs.Layout.{chunk_key, value_of, chunk_in}
@@ -28,3 +28,7 @@ pub record WroteBytes (live new : Records) (id : List ℕ) (size offset : ℕ) (
   pub chunked : IsChunked new id (max size (offset + count))
   pub file : HasOtherBytes live id new
   pub others : KeepsOthers live (chunk_key id (offset / 480)) new
+
+-- so many chunks of a node are there, from a place on
+abbrev pub AreThere : Records → List ℕ → ℕ → ℕ → Type 0
+AreThere live id first count = (k : ℕ) → k < count → IsSome (find (chunk_key id (first + k)) live)

@@ -13,21 +13,27 @@ use std::test::Fail;
 
 const FILE: NodeId = [0, 0, 0, 0, 0, 0, 0, 2];
 
-/// Writes 700 bytes to an empty store.
-fn first_write<M: Medium>(alloc: Global, store: &mut LogStore<M>) -> Result<u32, MediumErr>
+/// Writes 700 bytes to an empty store, and reads at most 100 bytes of what was taken, from the byte 470 on.
+fn write_and_read<M: Medium>(
+    alloc: Global,
+    store: &mut LogStore<M>,
+) -> Result<(u32, Vec<u8>), MediumErr>
     requires { 3 ≤ half_size (M.size (medium_of store.old)) }
     ensures { OnOk result (IsStore M.content M.size store.new) }
 {
     store.clear()?;
     let count = write_bytes(alloc, store, &FILE, 0, 0, &[7; 700])?;
-    Ok(count)
+    let bytes = read_bytes(alloc, store, &FILE, count, 470, 100)?;
+    Ok((count, bytes))
 }
 
 #[test]
 fn a_write_ends_with_its_chunk(rt: HostRuntime) -> Result<(), Fail> {
     let alloc = rt.alloc();
     let mut store = LogStore::new(alloc, MemMedium::new(alloc, 41, Vec::new(alloc)));
-    assert_eq!(rt; first_write(alloc, &mut store)?, 480);
+    let (count, bytes) = write_and_read(alloc, &mut store)?;
+    assert_eq!(rt; count, 480);
+    assert_eq!(rt; bytes.as_slice(), [7; 10].as_slice());
     assert!(rt;
         matches!(store.chunk(&FILE, 0)?, Some(bytes) if bytes.as_slice() == [7; 480].as_slice())
     );

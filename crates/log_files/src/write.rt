@@ -27,7 +27,7 @@ fn patched(alloc: Global, bytes: &[u8], at: usize, piece: &[u8]) -> Result<Vec<u
 }
 
 /// The bytes of a chunk, or none where it is not there.
-fn chunk_or_none<M: Medium>(
+pub(crate) fn chunk_or_none<M: Medium>(
     alloc: Global,
     store: &mut LogStore<M>,
     id: &NodeId,
@@ -44,8 +44,8 @@ fn chunk_or_none<M: Medium>(
     }
 }
 
-/// Puts bytes from the front of a piece at an offset, up to the end of a chunk, and answers how many. The file has `size`
-/// bytes, and the offset lies among them or at their end.
+/// Puts bytes from the front of a piece at an offset, up to the end of a chunk, and answers how many. The file has
+/// `size` bytes, and the offset lies among them or at their end.
 pub fn write_bytes<M: Medium>(
     alloc: Global,
     store: &mut LogStore<M>,
