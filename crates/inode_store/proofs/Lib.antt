@@ -1,5 +1,7 @@
-mod ByteLaws
-mod ChangeLaws
+pub mod ByteLaws
+pub mod ChangeLaws
+mod FormatLaws
+pub mod HeldLaws
 mod InodeWords
 mod OpLaws
 mod ResizeLaws

@@ -1,5 +1,5 @@
 -- What each call on one inode leaves.
-use Rattle.std.proofs.Common.{◌≡◌, ◌≢◌, ℕ, ◌+◌, ◌-◌, ◌<◌, min, take, drop, List, [], Bool, length, Option, Some, None, replicate, refl, sym, ap, subst, ◌∙◌, arith, lit≤}
+use Rattle.std.proofs.Common.{◌≡◌, ◌≢◌, ℕ, ◌+◌, ◌-◌, ◌<◌, min, take, drop, List, [], Bool, length, Option, Some, None, replicate, refl, sym, ap, subst, ◌∙◌, arith, lit≤, IsSome, true, false}
 use Rattle.std.specs.Option.{option_map}
 use Rattle.nfs2_types.specs.declared.fattr.Kind.{Kind}
 use Rattle.pointer_tree.specs.Tree.{Content, block, uses}
@@ -192,3 +192,25 @@ file_part area area' c c' i x from count first last bytes is ea ec ef el e =
     ∙ ap (λ (b : List ℕ). Some b) (part_of_bytes (block area c x.depth x.top) x.size from count first last ef el
     ∙ ap (λ (a : Area). bytes_from (block a c x.depth x.top) first (last - first)) (sym ea)
     ∙ ap (λ (f : Content). bytes_from (block area' f x.depth x.top) first (last - first)) (sym ec) ∙ sym e)
+
+-- an inode is used where it has a file
+pub inode_none : (area : Area) (c : Content) (i : ℕ) → file_at area c i ≡ None → inode_at area c i ≡ None
+unfolding file_at
+inode_none area c i e = by (inode_at area c i) e
+  where
+    by : (o : Option Inode) → option_map (file_of area c) o ≡ None → o ≡ None
+    by None h = refl
+    by (Some x) h = absurd (let bad : Some (file_of area c x) ≡ None = h in cc)
+
+pub inode_used : (area : Area) (c : Content) (i : ℕ) → IsSome (file_at area c i) → inode_at area c i ≢ None
+unfolding file_at
+inode_used area c i some none = by (inode_at area c i) some none
+  where
+    by : (o : Option Inode) → IsSome (option_map (file_of area c) o) → o ≡ None → ⊥
+    by None h e = (let bad : false ≡ true = h in cc)
+    by (Some x) h e = (let bad : Some x ≡ None = e in cc)
+
+pub file_is : (area : Area) (c : Content) (i : ℕ) (x : Inode) → inode_at area c i ≡ Some x →
+    file_at area c i ≡ Some (file_of area c x)
+unfolding file_at
+file_is area c i x e = ap (option_map (file_of area c)) e

@@ -1,4 +1,5 @@
 pub mod Files
+pub mod Held
 pub mod Inodes
 pub mod Keeps
 pub mod Kinds

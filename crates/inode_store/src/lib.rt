@@ -1,6 +1,7 @@
 //! Inodes on a medium: a map from numbers to kinds, attributes and bytes.
 #![tactic(auto)]
 
+mod format;
 mod inode;
 mod resize;
 mod store;
@@ -8,3 +9,6 @@ mod write;
 
 pub use inode::Inode;
 pub use store::InodeStore;
+
+#[cfg(test)]
+mod tests;

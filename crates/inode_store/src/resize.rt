@@ -22,7 +22,7 @@ impl<M: Medium> InodeStore<M> {
         requires kept { Keeps self.old.area self.old.inodes (M.content self.old.medium) (M.size self.old.medium)
             self.old.map }
         requires within { inode < self.old.inodes }
-        requires used { IsSome (inode_at self.old.area (M.content self.old.medium) inode) }
+        requires used { IsSome (file_at self.old.area (M.content self.old.medium) inode) }
         requires end { size ≤ 512 * 128 ^ 3 }
         requires room { 10 ≤ free_count self.old.map }
         ensures file { OnOk result (Becomes self.new.area self.new.inodes (M.size self.new.medium) inode
@@ -33,14 +33,10 @@ impl<M: Medium> InodeStore<M> {
         ensures size { M.size self.new.medium ≡ M.size self.old.medium }
         ensures cause { WriteHasCause (M.faults self.old.medium) (M.faults self.new.medium) result }
     {
-        match self.get(inode)? {
-            Some(x) => {
-                let y = self.resize(x, size)?;
-                self.put_changed(inode, x, y)?;
-                Ok(())
-            }
-            None => unreachable!(),
-        }
+        let x = self.used(inode)?;
+        let y = self.resize(x, size)?;
+        self.put_changed(inode, x, y)?;
+        Ok(())
     }
 
     /// The inode with its bytes cut, or with zeros behind them.

@@ -43,6 +43,26 @@ impl<M: Medium> InodeStore<M> {
         Ok(Inode::from_block(&block, self.area))
     }
 
+    /// An inode that is used.
+    pub(crate) fn used(&mut self, inode: u32) -> Result<Inode, MediumErr>
+        requires kept { Keeps self.old.area self.old.inodes (M.content self.old.medium) (M.size self.old.medium)
+            self.old.map }
+        requires within { inode < self.old.inodes }
+        requires used { IsSome (file_at self.old.area (M.content self.old.medium) inode) }
+        ensures inode { IfOk result (λ x. inode_at self.old.area (M.content self.old.medium) inode ≡ Some x) }
+        ensures content { M.content self.new.medium ≡ M.content self.old.medium }
+        ensures size { M.size self.new.medium ≡ M.size self.old.medium }
+        ensures map { self.new.map ≡ self.old.map }
+        ensures area { self.new.area ≡ self.old.area }
+        ensures inodes { self.new.inodes ≡ self.old.inodes }
+        ensures cause { WriteHasCause (M.faults self.old.medium) (M.faults self.new.medium) result }
+    {
+        match self.get(inode)? {
+            Some(x) => Ok(x),
+            None => unreachable!(),
+        }
+    }
+
     /// The bytes of a used inode from a place on, up to a count or the end.
     pub fn read(
         &mut self,
@@ -54,7 +74,7 @@ impl<M: Medium> InodeStore<M> {
         requires kept { Keeps self.old.area self.old.inodes (M.content self.old.medium) (M.size self.old.medium)
             self.old.map }
         requires within { inode < self.old.inodes }
-        requires used { IsSome (inode_at self.old.area (M.content self.old.medium) inode) }
+        requires used { IsSome (file_at self.old.area (M.content self.old.medium) inode) }
         ensures bytes { IfOk result (λ v. option_map (λ f. take count (drop from f.bytes))
             (file_at self.old.area (M.content self.old.medium) inode) ≡ Some v.items) }
         ensures content { M.content self.new.medium ≡ M.content self.old.medium }
@@ -64,23 +84,12 @@ impl<M: Medium> InodeStore<M> {
         ensures inodes { self.new.inodes ≡ self.old.inodes }
         ensures cause { WriteHasCause (M.faults self.old.medium) (M.faults self.new.medium) result }
     {
-        match self.get(inode)? {
-            Some(x) => {
-                let first = from.min(x.size);
-                let end = first + count.min(x.size - first);
-                let bytes = read_bytes(
-                    alloc,
-                    &mut self.medium,
-                    self.area,
-                    x.depth,
-                    x.top,
-                    first,
-                    end,
-                )?;
-                Ok(bytes)
-            }
-            None => unreachable!(),
-        }
+        let x = self.used(inode)?;
+        let first = from.min(x.size);
+        let end = first + count.min(x.size - first);
+        let medium = &mut self.medium;
+        let bytes = read_bytes(alloc, medium, self.area, x.depth, x.top, first, end)?;
+        Ok(bytes)
     }
 
     /// Writes the block of an inode.
@@ -104,7 +113,7 @@ impl<M: Medium> InodeStore<M> {
         requires kept { Keeps self.old.area self.old.inodes (M.content self.old.medium) (M.size self.old.medium)
             self.old.map }
         requires within { inode < self.old.inodes }
-        requires used { IsSome (inode_at self.old.area (M.content self.old.medium) inode) }
+        requires used { IsSome (file_at self.old.area (M.content self.old.medium) inode) }
         ensures file { OnOk result (Becomes self.new.area self.new.inodes (M.size self.new.medium) inode
             (option_map (with_attr mode uid gid) (file_at self.old.area (M.content self.old.medium) inode))
             (M.content self.old.medium) (M.content self.new.medium) self.new.map) }
@@ -113,19 +122,15 @@ impl<M: Medium> InodeStore<M> {
         ensures size { M.size self.new.medium ≡ M.size self.old.medium }
         ensures cause { WriteHasCause (M.faults self.old.medium) (M.faults self.new.medium) result }
     {
-        match self.get(inode)? {
-            Some(old) => {
-                let new = Inode {
-                    mode,
-                    uid,
-                    gid,
-                    ..old
-                };
-                self.put(inode, &new.to_block())?;
-                Ok(())
-            }
-            None => unreachable!(),
-        }
+        let old = self.used(inode)?;
+        let new = Inode {
+            mode,
+            uid,
+            gid,
+            ..old
+        };
+        self.put(inode, &new.to_block())?;
+        Ok(())
     }
 
     /// Makes a free inode a file, a directory or a link without bytes.
@@ -133,7 +138,7 @@ impl<M: Medium> InodeStore<M> {
         requires kept { Keeps self.old.area self.old.inodes (M.content self.old.medium) (M.size self.old.medium)
             self.old.map }
         requires within { inode < self.old.inodes }
-        requires free { inode_at self.old.area (M.content self.old.medium) inode ≡ None }
+        requires free { file_at self.old.area (M.content self.old.medium) inode ≡ None }
         ensures file { OnOk result (Becomes self.new.area self.new.inodes (M.size self.new.medium) inode
             (Some (new_file kind))
             (M.content self.old.medium) (M.content self.new.medium) self.new.map) }
@@ -160,7 +165,7 @@ impl<M: Medium> InodeStore<M> {
         requires kept { Keeps self.old.area self.old.inodes (M.content self.old.medium) (M.size self.old.medium)
             self.old.map }
         requires within { inode < self.old.inodes }
-        requires used { IsSome (inode_at self.old.area (M.content self.old.medium) inode) }
+        requires used { IsSome (file_at self.old.area (M.content self.old.medium) inode) }
         ensures file { OnOk result (Becomes self.new.area self.new.inodes (M.size self.new.medium) inode
             None
             (M.content self.old.medium) (M.content self.new.medium) self.new.map) }
@@ -169,20 +174,10 @@ impl<M: Medium> InodeStore<M> {
         ensures size { M.size self.new.medium ≡ M.size self.old.medium }
         ensures cause { WriteHasCause (M.faults self.old.medium) (M.faults self.new.medium) result }
     {
-        match self.get(inode)? {
-            Some(old) => {
-                let _ = cut_tree(
-                    &mut self.medium,
-                    &mut self.map,
-                    self.area,
-                    old.depth,
-                    old.top,
-                    0,
-                )?;
-                self.put(inode, &[0; 512])?;
-                Ok(())
-            }
-            None => unreachable!(),
-        }
+        let old = self.used(inode)?;
+        let medium = &mut self.medium;
+        let _ = cut_tree(medium, &mut self.map, self.area, old.depth, old.top, 0)?;
+        self.put(inode, &[0; 512])?;
+        Ok(())
     }
 }

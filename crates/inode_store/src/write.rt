@@ -6,11 +6,11 @@ ghost use Rattle.block_alloc.specs.Free.{free_count};
 ghost use Rattle.nfs2_types.specs.Bytes.{overwritten};
 ghost use Rattle.outside.specs.Causes.{WriteHasCause};
 ghost use Rattle.pointer_tree.specs.Changes.{IsTop, Fits, Stands};
+ghost use Rattle.inode_dirs.specs.Files.{File};
 ghost use Rattle.inode_store.specs.Files.{with_bytes};
 ghost use Rattle.inode_store.specs.Inodes.{inode_at, file_at, IsWhole};
 ghost use Rattle.inode_store.specs.Keeps.{Keeps, Becomes};
 ghost use Rattle.inode_store.specs.Written.{Rewrites};
-ghost use Rattle.inode_store.specs.declared.inode.Inode.{Inode as InodeOf};
 
 use crate::inode::Inode;
 use crate::store::InodeStore;
@@ -35,9 +35,9 @@ impl<M: Medium> InodeStore<M> {
         requires kept { Keeps self.old.area self.old.inodes (M.content self.old.medium) (M.size self.old.medium)
             self.old.map }
         requires within { inode < self.old.inodes }
-        requires used { IsSome (inode_at self.old.area (M.content self.old.medium) inode) }
-        requires inside { (x : InodeOf) → inode_at self.old.area (M.content self.old.medium) inode ≡ Some x →
-            offset ≤ x.size }
+        requires used { IsSome (file_at self.old.area (M.content self.old.medium) inode) }
+        requires inside { (f : File) → file_at self.old.area (M.content self.old.medium) inode ≡ Some f →
+            offset ≤ length f.bytes }
         requires some { 1 ≤ length piece.now }
         requires end { offset < 512 * 128 ^ 3 }
         requires room { 7 ≤ free_count self.old.map }
@@ -51,15 +51,11 @@ impl<M: Medium> InodeStore<M> {
         ensures size { M.size self.new.medium ≡ M.size self.old.medium }
         ensures cause { WriteHasCause (M.faults self.old.medium) (M.faults self.new.medium) result }
     {
-        match self.get(inode)? {
-            Some(x) => {
-                let count = piece.len().min(512 - (offset % 512) as usize);
-                let y = self.write_part(x, offset, &piece[..count])?;
-                self.put_changed(inode, x, y)?;
-                Ok(count as u32)
-            }
-            None => unreachable!(),
-        }
+        let x = self.used(inode)?;
+        let count = piece.len().min(512 - (offset % 512) as usize);
+        let y = self.write_part(x, offset, &piece[..count])?;
+        self.put_changed(inode, x, y)?;
+        Ok(count as u32)
     }
 
     /// Writes the block of an inode, if it is not as it was.
@@ -99,8 +95,8 @@ impl<M: Medium> InodeStore<M> {
         requires within { offset % 512 + length part.now ≤ 512 }
         requires place { offset < 512 * 128 ^ 3 }
         requires room { 7 ≤ free_count self.old.map }
-        ensures ok { IfOk result (λ y. Rewrites self.old.area x (overwritten offset part.now) (M.content self.old.medium)
-            self.old.map y (M.content self.new.medium) self.new.map) }
+        ensures ok { IfOk result (λ y. Rewrites self.old.area x (overwritten offset part.now)
+            (M.content self.old.medium) self.old.map y (M.content self.new.medium) self.new.map) }
         ensures end { IfOk result (λ y. y.size ≡ max x.size (offset + length part.now)) }
         ensures len { length self.new.map ≡ length self.old.map }
         ensures room { free_count self.old.map ≤ free_count self.new.map + 7 }

@@ -8,13 +8,13 @@ use Rattle.inode_store.proofs.store.InodeStore.set_attr.Goals as goal
 pub returns-clause-file : goal.returns-clause-file
 returns-clause-file g c =
     let s = c.args.self.now in
-    let e = c.in_ok-put-in-Some.ensures in
+    let e = c.in_ok-put.ensures in
     let r = c.in_ok-old.ensures in
-    let x = c.in-Some.old in
+    let x = c.in_ok-old.old in
     let c0 = g.M.Medium.content s.medium in
-    let c1 = g.M.Medium.content c.get.new.self.medium in
+    let c1 = g.M.Medium.content c.used.new.self.medium in
     let c2 = g.M.Medium.content c.put.new.self.medium in
-    let is : inode_at s.area c0 c.args.inode ≡ Some x = sym r.inode ∙ c.in-Some.is in
+    let is : inode_at s.area c0 c.args.inode ≡ Some x = r.inode in
     let y : Inode = record x { mode = c.args.mode; uid = c.args.uid; gid = c.args.gid } in
     becomes_on s.area _ s.inodes _ (g.M.Medium.size s.medium) _ c.args.inode _ _ c0 c2 s.map _ (e.area ∙ r.area)
     (e.inodes ∙ r.inodes) (e.size ∙ r.size) (e.map ∙ r.map)

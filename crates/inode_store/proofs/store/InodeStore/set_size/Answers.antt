@@ -12,36 +12,36 @@ resize-requires-clause-stands g c =
     let s = c.args.self.now in
     let r = c.in_ok-x.ensures in
     stands_on s.area _ s.inodes (g.M.Medium.size s.medium) c.args.inode (g.M.Medium.content s.medium) _ s.map _
-    c.in-Some.x c.requires.kept c.requires.within (sym r.inode ∙ c.in-Some.is) r.area r.content r.map
+    c.in_ok-x.x c.requires.kept c.requires.within r.inode r.area r.content r.map
 
 pub put_changed-requires-clause-was : goal.put_changed-requires-clause-was
 put_changed-requires-clause-was g c =
     let s = c.args.self.now in
     let r = c.in_ok-x.ensures in
-    let w = c.in_ok-y-in-Some.ensures in
-    let x = c.in-Some.x in
+    let w = c.in_ok-y.ensures in
+    let x = c.in_ok-x.x in
     let c0 = g.M.Medium.content s.medium in
     let c1 = g.M.Medium.content c.resize.new.self.medium in
-    let part = writes_on s.area _ x (resized c.args.size) c0 _ s.map _ c.in_ok-y-in-Some.y c1 c.resize.new.self.map
+    let part = writes_on s.area _ x (resized c.args.size) c0 _ s.map _ c.in_ok-y.y c1 c.resize.new.self.map
     r.area
     r.content r.map w.ok in
     ap (λ (a : Area). inode_at a c1 c.args.inode) (w.area ∙ r.area)
     ∙ inode_kept s.area s.inodes (g.M.Medium.size s.medium) c.args.inode c0 c1 s.map c.resize.new.self.map x _ _
-    c.requires.kept c.requires.within (sym r.inode ∙ c.in-Some.is) part.moves
+    c.requires.kept c.requires.within r.inode part.moves
 
 pub returns-clause-file : goal.returns-clause-file
 returns-clause-file g c =
     let s = c.args.self.now in
     let r = c.in_ok-x.ensures in
-    let w = c.in_ok-y-in-Some.ensures in
-    let e = c.in_ok-put_changed-in-Some.ensures in
-    let x = c.in-Some.x in
-    let y = c.in_ok-y-in-Some.y in
+    let w = c.in_ok-y.ensures in
+    let e = c.in_ok-put_changed.ensures in
+    let x = c.in_ok-x.x in
+    let y = c.in_ok-y.y in
     let c0 = g.M.Medium.content s.medium in
     let c1 = g.M.Medium.content c.resize.new.self.medium in
     let c2 = g.M.Medium.content c.put_changed.new.self.medium in
     let m1 = c.resize.new.self.map in
-    let is : inode_at s.area c0 c.args.inode ≡ Some x = sym r.inode ∙ c.in-Some.is in
+    let is : inode_at s.area c0 c.args.inode ≡ Some x = r.inode in
     let part : Rewrites s.area x (resized c.args.size) c0 s.map y c1 m1 =
     writes_on s.area _ x _ c0 _ s.map _ y c1 m1 r.area r.content r.map w.ok in
     let here : inode_at s.area c2 c.args.inode ≡ Some y =
