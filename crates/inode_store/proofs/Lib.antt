@@ -5,4 +5,5 @@ pub mod HeldLaws
 mod InodeWords
 mod OpLaws
 mod ResizeLaws
+pub mod RoomLaws
 mod WriteLaws
