@@ -1,3 +1,4 @@
+pub mod ClaimLaws
 mod CutLaws
 pub mod DeepLaws
 pub mod Forest

@@ -88,3 +88,8 @@ pub record Deepens (area : Area) (d top : ℕ) (c : Content) (m : List Bool) (d'
   pub past : (k : ℕ) → 128 ^ d ≤ k → k < 128 ^ d' → block area c' d' top' k ≡ zeros
   pub top_is : IsTop area top'
   pub tight : (n : ℕ) → is_tight area c d top n ≡ true → is_tight area c' d' top' n ≡ true
+
+-- A tree's blocks are no longer free, and each other block is as it was.
+pub record Claims (area : Area) (d top : ℕ) (c : Content) (m m' : List Bool) : Type 0 where
+  pub used : (b : ℕ) → 1 ≤ uses area c d top b → free m' b ≡ 0
+  pub others : (b : ℕ) → uses area c d top b ≡ 0 → free m' b ≡ free m b

@@ -1,6 +1,7 @@
 //! Trees of pointers, which keep a run of blocks on a medium.
 #![tactic(auto)]
 
+mod claim;
 mod cut;
 mod get;
 mod node;
@@ -8,6 +9,7 @@ mod put;
 mod raise;
 mod read;
 
+pub use claim::claim_tree;
 pub use cut::cut_tree;
 pub use get::get_block;
 pub use node::Area;
