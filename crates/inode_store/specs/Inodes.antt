@@ -1,6 +1,5 @@
 -- Inodes on a medium. Block 0 names what is there; block 1 + i is inode i, one a block; behind them lies the area of
--- which
--- the trees of their bytes are made. Numbers are four bytes, big-endian.
+-- which the trees of their bytes are made. Numbers are four bytes, big-endian.
 --
 --   an inode's block:  0 kind (1 a file, 2 a directory, 3 a link, else free)   4 mode   8 uid   12 gid
 --                      16 size in bytes   20 depth of its tree   24 top of its tree   the rest zeros
