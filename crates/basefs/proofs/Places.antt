@@ -1,15 +1,11 @@
 -- The servers of a bench, by their places.
-use Rattle.std.proofs.Common.{◌≡◌, ◌⊎◌, inl, inr, ℕ, zero, suc, ◌+◌, ◌<◌, ◌≤◌, List, [], ◌∷◌, ◌++◌, length, get_or, slice_get, Option, Some, None, refl, sym, ◌∙◌, ap, subst, arith}
+use Rattle.std.proofs.Common.{◌≡◌, ℕ, ◌<◌, ◌≤◌, List, length, get_or, slice_get, Option, Some, None, sym, ◌∙◌, subst, arith}
 use Rattle.std.specs.Prelude.{slice_index_or}
-use Rattle.std.proofs.Math.Seq.{get_or-append_seam}
-use Rattle.std.proofs.lemmas.Bool.{cases_lt}
-use Rattle.std.proofs.lemmas.List.{length-append, get_or_append_left}
 use Rattle.std.proofs.lemmas.Option.{slice_get_within, slice_get-get_or}
 use Rattle.nfs2_types.specs.declared.Limits.{Limits}
 use Rattle.abs_model.specs.declared.Entry.{Entry}
 use Rattle.server_trait.specs.Tree.{Server}
 use Rattle.server_trait.specs.declared.ConfTable.{ConfTable}
-use Rattle.conf_map.specs.Stands.{HasRoom}
 use Rattle.cluster_model.specs.Tree.{below}
 use Rattle.cluster_model.specs.State.{Running, Condition, Live, Down, State}
 use Rattle.cluster_model.specs.Moments.{Moment}
@@ -17,39 +13,12 @@ use Rattle.cluster_model.specs.Turns.{last}
 use Rattle.cluster_model.proofs.Seats.{live_within}
 use Rattle.replica.specs.declared.Replica.{Replica}
 use Rattle.cluster.specs.Positions.{StandsAt, AreLater}
-use Rattle.cluster.specs.OverBench.{Kept, IsSeat, IsState, HaveArrays, HaveRoom}
+use Rattle.cluster.specs.OverBench.{Kept, IsSeat, IsState, HaveArrays}
 use Rattle.cluster.specs.Steps.{ServersAreStruck}
+use Rattle.cluster.proofs.Struck.{below_is}
 use Rattle.basefs.specs.Servers.{LiveStand, ServersAreWorn}
 
 -- POSITIONS
-
-pub length-below : (n : ℕ) → length (below n) ≡ n
-length-below zero = refl
-length-below (suc n) =
-    let e : length (below n ++ n ∷ []) ≡ length (below n) + 1 = length-append (below n) (n ∷ []) in
-    let rest : length (below n) ≡ n = length-below n in
-    omega arith
-
-below_at : (n r : ℕ) → r < n → get_or (below n) r 0 ≡ r
-below_at zero r within = absurd (omega arith)
-below_at (suc n) r within = by (below_at n r) (cases_lt r n)
-  where
-    by : (r < n → get_or (below n) r 0 ≡ r) → (r < n) ⊎ (n ≤ r) → get_or (below n ++ n ∷ []) r 0 ≡ r
-    by rest (inl low) =
-        let inside : r < length (below n) = (let e = length-below n in omega arith) in
-        get_or_append_left (below n) (n ∷ []) 0 r inside ∙ rest low
-    by rest (inr high) =
-        let last : r ≡ n = omega arith in
-        let seam : get_or (below n ++ n ∷ []) (length (below n)) 0 ≡ n = get_or-append_seam (below n) n [] 0 in
-        ap (λ k. get_or (below n ++ n ∷ []) k 0) (last ∙ sym (length-below n)) ∙ seam ∙ sym last
-
--- what stands at a place of the numbers below n is the place
-below_is : (n i s : ℕ) → slice_get (below n) i ≡ Some s → i ≡ s
-below_is n i s e =
-    let within : i < length (below n) = slice_get_within (below n) i s e in
-    let at : slice_get (below n) i ≡ Some (get_or (below n) i 0) = slice_get-get_or (below n) i 0 within in
-    let same : get_or (below n) i 0 ≡ s = (let f : Some (get_or (below n) i 0) ≡ Some s = sym at ∙ e in cc) in
-    sym (below_at n i (let l = length-below n in omega arith)) ∙ same
 
 -- at this place there is a server
 at_place : {X : Type 0} (xs ys : List X) (r : ℕ) (x : X) → length ys ≡ length xs → slice_get xs r ≡ Some x →
@@ -95,36 +64,6 @@ module _ {X : Type 0} (state : X → Server) where
       (seat_stands c.limits (slice_index_or c.seats r None) _ _ _ l e (h.conditions r within))
 
   -- WHAT BECOMES OF THE SERVERS
-
-  pub later_same : (n : ℕ) (xs : List X) → AreLater state n xs xs
-  later_same n xs = record {
-    size = refl;
-    limits = λ r x y e f. ap (λ z. (state z).limits) (let g : Some y ≡ Some x = sym f ∙ e in cc);
-    faults = λ r x y e f.
-        let same : y ≡ x = (let g : Some y ≡ Some x = sym f ∙ e in cc) in
-        let count : (state y).faults ≡ (state x).faults = ap (λ z. (state z).faults) same in
-        omega arith;
-    beyond = λ r le. refl;
-  }
-
-  pub later_then : (n : ℕ) (xs ys zs : List X) → AreLater state n xs ys → AreLater state n ys zs →
-      AreLater state n xs zs
-  later_then n xs ys zs h g = record {
-    size = g.size ∙ h.size;
-    limits = λ r x z e f. (let y = at_place xs ys r x h.size e in
-        g.limits r y.0 z y.1 f ∙ h.limits r x y.0 e y.1);
-    faults = λ r x z e f. (let y = at_place xs ys r x h.size e in
-        let a = h.faults r x y.0 e y.1 in let b = g.faults r y.0 z y.1 f in omega arith);
-    beyond = λ r le. g.beyond r le ∙ h.beyond r le;
-  }
-
-  -- a server with room keeps it
-  pub room_later : (limits : Limits) (n : ℕ) (xs ys : List X) → AreLater state n xs ys → HaveRoom state limits xs →
-      HaveRoom state limits ys
-  room_later limits n xs ys h room r = record {
-    room = λ y e. (let x = at_place ys xs r y (sym h.size) e in
-        subst (HasRoom limits) (sym (h.limits r x.0 y x.1 e)) ((room r).room x.0 x.1));
-  }
 
   -- servers that failed as often as they were struck, and may have failed since
   pub worn_later : (k n : ℕ) (m : Moment) (ms : List Moment) (xs ys zs : List X) → m.state.bench ≡ below n →

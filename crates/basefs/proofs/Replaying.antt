@@ -21,7 +21,7 @@ use Rattle.basefs.specs.Going.{Goes, read_status}
 use Rattle.basefs.specs.Beginning.{all_records, RunsAll}
 use Rattle.basefs.specs.Replayed.{IsBench, Refuses, replicas_of, Replayed}
 use Rattle.basefs.proofs.Records.{or_false}
-use Rattle.basefs.proofs.Places.{later_same}
+use Rattle.cluster.proofs.Struck.{later_none}
 use Rattle.basefs.proofs.Taking.{HoldsOf-always, IfSome-then, prefix_none, Ends-then}
 
 -- servers of which none is too small have room
@@ -155,7 +155,7 @@ replayed_early state old left held servers tables downs s h = inl (record {
   held_stays = refl;
   bench_stays = λ no. record { servers = refl; tables = refl; downs = refl };
   downs_known = inr refl;
-  later = later_same state (replicas_of h.ends.taken) servers;
+  later = later_none state (replicas_of h.ends.taken) servers;
 })
 
 module _ {X : Type 0} (state : X → Server) (old left left' held held' : Option (List ℕ)) (servers servers' : List X)

@@ -38,7 +38,8 @@ use Rattle.basefs.specs.Servers.{ArePoints}
 use Rattle.basefs.specs.Run.{IsPrefix, Ends, Wrote, Printed, IsCutAtLast, Ran, end_of, requests_of}
 use Rattle.basefs.specs.Going.{Here, run_status}
 use Rattle.basefs.proofs.Points.{IsOf, points_then}
-use Rattle.basefs.proofs.Places.{length-below, live_stand, later_same, later_then, worn_later}
+use Rattle.cluster.proofs.Struck.{length-below, later_none, later_then}
+use Rattle.basefs.proofs.Places.{live_stand, worn_later}
 use Rattle.basefs.proofs.Running.{run_more, run_told, run_served}
 
 -- ONE RECORD MORE
@@ -209,7 +210,7 @@ module _ {X : Type 0} {state : X → Server} {limits : Limits} {old now : Settin
     struck = λ no. h.struck;
     worn = worn_later state (3 * limits.f + 1) (length old.servers) (fresh (service limits) (length old.servers))
         h.ms old.servers now.servers now.servers refl (h.is_state.order ∙ ap below h.later.size) h.later
-        (later_same state (3 * limits.f + 1) now.servers) h.struck;
+        (later_none state (3 * limits.f + 1) now.servers) h.struck;
     size = h.later.size;
     spares = h.later.beyond;
   }

@@ -1,5 +1,6 @@
 use Rattle.std.proofs.Common.{inl, refl, arith}
-use Rattle.basefs.proofs.Places.{have_arrays, room_later}
+use Rattle.cluster.proofs.Struck.{room_later}
+use Rattle.basefs.proofs.Places.{have_arrays}
 use Rattle.cluster.specs.Kept.{kept}
 use Rattle.basefs.proofs.Beginning.{begun_over, turned, turned_over, turned_most}
 use Rattle.basefs.proofs.run.run_log.Goals as goal
