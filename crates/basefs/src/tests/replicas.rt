@@ -115,6 +115,14 @@ fn replicas_run_one_by_one(rt: HostRuntime) -> Result<(), Fail> {
             "reply 1 000000010000000100000000000000000000000000000000\nat 0 0\nat 1 0\nat 2 0\nat 3 0\nat 4 1\nat 5 1\nat 6 1\n",
         ),
         (1, 10, [RUN, 4].as_slice(), Status::BadLog { at: 84 }, ""),
+        // A word stands behind the last record.
+        (
+            1,
+            4,
+            [RUN_ALL, END, 0].as_slice(),
+            Status::BadLog { at: 92 },
+            "reply 1 000000010000000100000000000000000000000000000000\nat 0 1\nat 1 1\nat 2 1\nat 3 1\n",
+        ),
         (
             1,
             4,
