@@ -8,9 +8,9 @@ use Rattle.nfs2_types.specs.Bytes.{resized, overwritten}
 use Rattle.log_segments.specs.Newest.{find}
 use Rattle.log_records.specs.Layout.{chunk_key, value_of, chunk_in}
 use Rattle.log_tree.specs.Held.{Records, chunk_and, bytes_from, bytes_of}
-use Rattle.log_store.specs.Store.{HasBefore, PutsChunk, KeepsOthers}
+use Rattle.log_store.specs.Store.{HasBefore, Puts, PutsChunk, KeepsOthers}
 use Rattle.server_trait.proofs.TreeLaws.{one_or_not}
-use Rattle.log_files.specs.Chunked.{IsChunked, bytes_in}
+use Rattle.log_files.specs.Chunked.{IsChunked, bytes_in, chunks_of}
 
 -- PIECES
 
@@ -23,7 +23,7 @@ overwritten_is at piece bytes within =
     ∙ ap (λ xs. xs ++ (piece ++ drop (at + length piece) bytes)) (ap (λ n. take at bytes ++ replicate n 0) none
     ∙ append-nil (take at bytes))
 
-take_behind : (front rest : List ℕ) (n k : ℕ) → n ≡ length front + k → take n (front ++ rest) ≡ front ++ take k rest
+pub take_behind : (front rest : List ℕ) (n k : ℕ) → n ≡ length front + k → take n (front ++ rest) ≡ front ++ take k rest
 take_behind [] rest n k is = let e : n ≡ k = omega arith in ap (λ m. take m rest) e
 take_behind (x ∷ front) rest zero k is = absurd (omega arith)
 take_behind (x ∷ front) rest (suc n) k is = ap (λ xs. x ∷ xs) (take_behind front rest n k (omega arith))
@@ -75,7 +75,7 @@ length-overwritten at piece bytes within =
 -- CHUNKS
 
 -- the chunks before a place are full
-length-front : (live : Records) (id : List ℕ) (size : ℕ) → IsChunked live id size → (i p : ℕ)
+pub length-front : (live : Records) (id : List ℕ) (size : ℕ) → IsChunked live id size → (i p : ℕ)
     → 480 * (p + i) ≤ size → length (bytes_from i live id p) ≡ 480 * i
 unfolding bytes_from
 length-front live id size h zero p within = refl
@@ -157,7 +157,7 @@ last_or_full live id size place most at count h within few fits =
       | inr g ↦ inr (none_behind live id most (place + 1) (h.absent (place + 1) g (omega arith)))
     ]
 
-chunk_apart : (id : List ℕ) (p q : ℕ) → length id ≡ 8 → p < 2 ^ 32 → q < 2 ^ 32 → p ≢ q
+pub chunk_apart : (id : List ℕ) (p q : ℕ) → length id ≡ 8 → p < 2 ^ 32 → q < 2 ^ 32 → p ≢ q
     → chunk_key id p ≢ chunk_key id q
 chunk_apart id p q eight few_p few_q ne e =
     let tails : id ++ to_be_bytes w32 p ≡ id ++ to_be_bytes w32 q = cc e in
@@ -227,6 +227,22 @@ module _ (live new : Records) (id : List ℕ) (size offset place at : ℕ) (piec
     ];
     absent = λ p past few. other p few (λ e. omega arith) ∙ h.absent p (omega arith) few;
   }
+
+-- there is one chunk more only where the bytes ended in front of it
+pub chunks_more : {X : Type 0} {read : List ℕ → X} {value : X} (live new : Records) (id : List ℕ)
+    (size offset place at count : ℕ) → IsChunked live id size → offset ≤ size → offset ≡ 480 * place + at
+    → at + count ≤ 480 → 1 ≤ count → Puts read live (chunk_key id place) value new
+    → length new + chunks_of size ≤ length live + chunks_of (max size (offset + count))
+chunks_more live new id size offset place at count h among is inside some put = elim (below_or_not (480 * place) size) [
+  | inl l ↦
+      let over = put.over (chunk_there (find (chunk_key id place) live) (min 480 (size - 480 * place)) (h.there place l)) in
+      omega arith
+  | inr g ↦ let more = put.more in omega arith
+]
+  where
+    chunk_there : (o : Option (List ℕ)) (n : ℕ) → IsSomeAnd o (λ r. length (chunk_in (value_of r)) ≡ n) → IsSome o
+    chunk_there None n h = absurd h
+    chunk_there (Some r) n h = refl
 
 -- NOTHING
 

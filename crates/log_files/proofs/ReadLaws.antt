@@ -35,7 +35,7 @@ bytes_more live id n p count below there = rw add-one (more live id n p (p + n) 
     (omega arith))))
 
 -- chunks that are there, and those behind them
-parted : (live : Records) (id : List ℕ) (i k m p q : ℕ) → m ≡ i + k → q ≡ p + i → ((j : ℕ) → p ≤ j → j < q
+pub parted : (live : Records) (id : List ℕ) (i k m p q : ℕ) → m ≡ i + k → q ≡ p + i → ((j : ℕ) → p ≤ j → j < q
     → IsSome (find (chunk_key id j) live))
     → bytes_from m live id p ≡ bytes_from i live id p ++ bytes_from k live id q
 unfolding bytes_from
@@ -84,7 +84,7 @@ read_none live id size offset count end h is past = elim (below_or_not offset si
       ∙ take_all count [] (omega arith))
 ]
 
-there_is : (live : Records) (id : List ℕ) (size : ℕ) → IsChunked live id size → (j : ℕ) → 480 * j < size
+pub there_is : (live : Records) (id : List ℕ) (size : ℕ) → IsChunked live id size → (j : ℕ) → 480 * j < size
     → IsSome (find (chunk_key id j) live)
 there_is live id size h j below =
     elim (find (chunk_key id j) live) as (λ (o : Option (List ℕ)). IsSomeAnd o (λ r. length (chunk_in (value_of r))

@@ -14,10 +14,10 @@ use Rattle.log_records.specs.Laws.{NodeFits}
 use Rattle.log_records.specs.Spelling.{record_of, node_value, chunk_value}
 use Rattle.log_records.proofs.Again.{parts_again, node_again, child_again, chunk_again}
 use Rattle.log_tree.specs.Held.{Records, handle_of, id_of, name_view, names_of, bytes_from, content_of, node_of, tree_of}
-use Rattle.log_tree.specs.Laws.{IsOfNode}
+use Rattle.log_tree.specs.Laws.{IsOfNode, IsInside}
 use Rattle.log_store.specs.Store.{KeepsOthers, HasBefore, PutsChunk, DropsChunk, NodeIs, PutsNode, node_with}
 use Rattle.log_tree.proofs.Views.{find-key, get-view, name_back, names_inverse}
-use Rattle.log_tree.proofs.TreeLaws.{apart, find-other, node_at-id}
+use Rattle.log_tree.proofs.TreeLaws.{apart, find-other, node_at-id, inside_laws}
 use Rattle.log_segments.proofs.Finds.{find-after}
 use Rattle.std.proofs.lemmas.Slice.Eq.{bytes_eq-Decides}
 use Rattle.log_tree.proofs.StepLaws.{of_node, name_laws, chunk_laws}
@@ -29,7 +29,7 @@ key_size_is b key long is few =
     omega (arith, ap length is, length-take (256 * get_or b 1 0 + get_or b 2 0) (drop 3 b), length-drop 3 b)
 
 -- a record that is put is found
-found_now : (live : Records) (block key : List ℕ) → key_of block ≡ key
+pub found_now : (live : Records) (block key : List ℕ) → key_of block ≡ key
     → find key (after live block) ≡ cond (is_gone block) None (Some block)
 found_now live block key is =
     find-after live block key
@@ -38,11 +38,11 @@ found_now live block key is =
 
 -- NAMES
 
-name_fits : (dir name child : List ℕ) → length dir ≡ 8 → length name ≤ 255 → length child ≡ 8
+pub name_fits : (dir name child : List ℕ) → length dir ≡ 8 → length name ≤ 255 → length child ≡ 8
     → 3 + length (name_key dir name) + length child ≤ 512
 name_fits dir name child eight few one = omega (arith, length-append dir name)
 
-gone_fits : (dir name : List ℕ) → length dir ≡ 8 → length name ≤ 255 → 3 + length (name_key dir name) + 0 ≤ 512
+pub gone_fits : (dir name : List ℕ) → length dir ≡ 8 → length name ≤ 255 → 3 + length (name_key dir name) + 0 ≤ 512
 gone_fits dir name eight few = omega (arith, length-append dir name)
 
 pub name_key_fits : (dir name : List ℕ) → length dir ≡ 8 → length name ≤ 255 → length (name_key dir name) ≤ 264
@@ -89,7 +89,7 @@ name_size live dir name b eight few long is =
 
 -- NODES
 
-node_fits : (id : List ℕ) (n : NodeRecord) → length id ≡ 8 → 3 + length (node_key id) + length (node_value n) ≤ 512
+pub node_fits : (id : List ℕ) (n : NodeRecord) → length id ≡ 8 → 3 + length (node_key id) + length (node_value n) ≤ 512
 node_fits id n eight = omega arith
 
 pub node_stands : (id : List ℕ) (n : NodeRecord) → length id ≡ 8
@@ -142,17 +142,22 @@ node_size live id b eight long is =
 
 -- CHUNKS
 
-chunk_fits : (id : List ℕ) (place : ℕ) (bytes : List ℕ) → length id ≡ 8 → length bytes ≤ 480
+pub chunk_fits : (id : List ℕ) (place : ℕ) (bytes : List ℕ) → length id ≡ 8 → length bytes ≤ 480
     → 3 + length (chunk_key id place) + length (chunk_value bytes) ≤ 512
 chunk_fits id place bytes eight most = omega (arith, length-append id (to_be_bytes w32 place))
 
-chunk_gone_fits : (id : List ℕ) (place : ℕ) → length id ≡ 8 → 3 + length (chunk_key id place) + 0 ≤ 512
+pub chunk_gone_fits : (id : List ℕ) (place : ℕ) → length id ≡ 8 → 3 + length (chunk_key id place) + 0 ≤ 512
 chunk_gone_fits id place eight = omega (arith, length-append id (to_be_bytes w32 place))
 
 pub chunk_stands : (id : List ℕ) (place : ℕ) (bytes : List ℕ) → length id ≡ 8 → length bytes ≤ 480
     → is_end (record_of 2 (chunk_key id place) (chunk_value bytes)) ≡ false
 chunk_stands id place bytes eight most = (parts_again 2 (chunk_key id place) (chunk_value bytes)
     (chunk_fits id place bytes eight most)).end_is
+
+-- a chunk's record is about what is inside of a node
+chunk_inside : (r id : List ℕ) (place : ℕ) → length id ≡ 8 → key_of r ≡ chunk_key id place → IsInside r id
+chunk_inside r id place eight key =
+    record { size = eight; about = 3; rest = to_be_bytes w32 place; not_node = λ e. omega arith; key = key }
 
 pub chunk_put : (live : Records) (id : List ℕ) (place : ℕ) (bytes : List ℕ) → length id ≡ 8 → place < 17477
     → length bytes ≤ 480
@@ -172,6 +177,7 @@ chunk_put live id place bytes eight few most below =
       bytes_are = laws.puts p.gone_is ∙ ap (λ b. bytes_from place live id 0 ++ (b ++ bytes_from
           (17476 - place) live id (place + 1))) read;
       file = laws.file;
+      alone = (inside_laws live block id (chunk_inside block id place eight p.key_is)).absent;
     }
 
 pub chunk_gone_stands : (id : List ℕ) (place : ℕ) → length id ≡ 8 → is_end (record_of 1 (chunk_key id place) []) ≡ false
@@ -187,6 +193,7 @@ chunk_dropped live id place eight few below =
       here = found_now live block (chunk_key id place) p.key_is ∙ ap (λ g. cond g None (Some block)) p.gone_is;
       bytes_are = laws.takes p.gone_is;
       file = laws.file;
+      alone = (inside_laws live block id (chunk_inside block id place eight p.key_is)).absent;
     }
 
 pub chunk_size : (live : Records) (id : List ℕ) (place : ℕ) (b : List ℕ) → length id ≡ 8 → length b ≡ 512

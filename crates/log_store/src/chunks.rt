@@ -4,7 +4,7 @@ ghost use Rattle.std.specs.Prelude.{◌≡◌, ◌≤◌, ◌<◌, length, optio
 ghost use Rattle.log_segments.specs.Newest.{find};
 ghost use Rattle.log_records.specs.Layout as layout;
 ghost use Rattle.log_records.specs.Layout.{value_of, chunk_in};
-ghost use Rattle.log_store.specs.Store.{IsStore, HasRoom, HasBefore, KeepsOthers, PutsChunk, DropsChunk, Reads, Writes, live_in};
+ghost use Rattle.log_store.specs.Store.{IsStore, HasRoom, HasBefore, KeepsOthers, Puts, Drops, PutsChunk, DropsChunk, Reads, Writes, live_in};
 
 use crate::store::LogStore;
 use log_records::{NodeId, chunk_key, chunk_record, gone_record, read_chunk};
@@ -35,6 +35,8 @@ impl<M: Medium> LogStore<M> {
         requires bytes { length bytes.now ≤ 480 }
         ensures puts { let live = live_in M.content M.size in
             OnOk result (PutsChunk (live self.old) id.now place bytes.now (live self.new)) }
+        ensures here { let live = live_in M.content M.size in let key = layout.chunk_key id.now place in
+            OnOk result (Puts chunk_in (live self.old) key bytes.now (live self.new)) }
         ensures others { let live = live_in M.content M.size in
             OnOk result (KeepsOthers (live self.old) (layout.chunk_key id.now place) (live self.new)) }
         ensures writes { Writes M.content M.size M.faults self.old self.new result }
@@ -51,6 +53,8 @@ impl<M: Medium> LogStore<M> {
         requires before { HasBefore (live_in M.content M.size self.old) id.now place }
         ensures drops { let live = live_in M.content M.size in
             OnOk result (DropsChunk (live self.old) id.now place (live self.new)) }
+        ensures none { let live = live_in M.content M.size in
+            OnOk result (Drops (live self.old) (layout.chunk_key id.now place) (live self.new)) }
         ensures others { let live = live_in M.content M.size in
             OnOk result (KeepsOthers (live self.old) (layout.chunk_key id.now place) (live self.new)) }
         ensures writes { Writes M.content M.size M.faults self.old self.new result }

@@ -5,7 +5,8 @@ ghost use Rattle.std.specs.FinMap.{get};
 ghost use Rattle.server_trait.specs.Tree.{named, unnamed};
 ghost use Rattle.log_tree.specs.Held.{handle_of, names_of};
 ghost use Rattle.log_records.specs.Layout as layout;
-ghost use Rattle.log_store.specs.Store.{IsStore, HasRoom, KeepsOthers, Reads, Writes, live_in, tree_in};
+ghost use Rattle.log_records.specs.Layout.{child_in};
+ghost use Rattle.log_store.specs.Store.{IsStore, HasRoom, KeepsOthers, Puts, Drops, Reads, Writes, live_in, tree_in};
 
 use crate::store::LogStore;
 use log_records::{NodeId, gone_record, name_key, name_record, read_child};
@@ -35,6 +36,8 @@ impl<M: Medium> LogStore<M> {
         ensures named { let tree = tree_in M.content M.size in
             let leads = named (tree self.old) (handle_of dir.now) name.now (handle_of child.now) in
             OnOk result (tree self.new ≡ leads) }
+        ensures here { let live = live_in M.content M.size in let key = layout.name_key dir.now name.now in
+            OnOk result (Puts child_in (live self.old) key child.now (live self.new)) }
         ensures others { let live = live_in M.content M.size in
             OnOk result (KeepsOthers (live self.old) (layout.name_key dir.now name.now) (live self.new)) }
         ensures writes { Writes M.content M.size M.faults self.old self.new result }
@@ -50,6 +53,8 @@ impl<M: Medium> LogStore<M> {
         requires name { length name.now ≤ 255 }
         ensures unnamed { let tree = tree_in M.content M.size in
             OnOk result (tree self.new ≡ unnamed (tree self.old) (handle_of dir.now) name.now) }
+        ensures none { let live = live_in M.content M.size in
+            OnOk result (Drops (live self.old) (layout.name_key dir.now name.now) (live self.new)) }
         ensures others { let live = live_in M.content M.size in
             OnOk result (KeepsOthers (live self.old) (layout.name_key dir.now name.now) (live self.new)) }
         ensures writes { Writes M.content M.size M.faults self.old self.new result }

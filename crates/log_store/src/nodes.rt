@@ -5,7 +5,8 @@ ghost use Rattle.server_trait.specs.Tree.{without_node};
 ghost use Rattle.log_records.specs.declared.node.NodeRecord.{NodeRecord};
 ghost use Rattle.log_tree.specs.Held.{handle_of};
 ghost use Rattle.log_records.specs.Layout as layout;
-ghost use Rattle.log_store.specs.Store.{IsStore, HasRoom, KeepsOthers, NodeIs, PutsNode, Reads, Writes, live_in, tree_in};
+ghost use Rattle.log_records.specs.Layout.{node_in};
+ghost use Rattle.log_store.specs.Store.{IsStore, HasRoom, KeepsOthers, NodeIs, Puts, Drops, PutsNode, Reads, Writes, live_in, tree_in};
 
 use crate::store::LogStore;
 use log_records::{NodeId, NodeRecord, gone_record, node_key, node_record, read_node};
@@ -40,6 +41,9 @@ impl<M: Medium> LogStore<M> {
         ensures puts { let node : NodeRecord = record { kind = kind; mode = mode; uid = uid; gid = gid } in
             let live = live_in M.content M.size in
             OnOk result (PutsNode (live self.old) id.now node (live self.new)) }
+        ensures here { let node : NodeRecord = record { kind = kind; mode = mode; uid = uid; gid = gid } in
+            let live = live_in M.content M.size in
+            OnOk result (Puts node_in (live self.old) (layout.node_key id.now) node (live self.new)) }
         ensures others { let live = live_in M.content M.size in
             OnOk result (KeepsOthers (live self.old) (layout.node_key id.now) (live self.new)) }
         ensures writes { Writes M.content M.size M.faults self.old self.new result }
@@ -60,6 +64,8 @@ impl<M: Medium> LogStore<M> {
         requires room { HasRoom M.content M.size self.old }
         ensures gone { let tree = tree_in M.content M.size in
             OnOk result (tree self.new ≡ without_node (tree self.old) (handle_of id.now)) }
+        ensures none { let live = live_in M.content M.size in
+            OnOk result (Drops (live self.old) (layout.node_key id.now) (live self.new)) }
         ensures others { let live = live_in M.content M.size in
             OnOk result (KeepsOthers (live self.old) (layout.node_key id.now) (live self.new)) }
         ensures writes { Writes M.content M.size M.faults self.old self.new result }

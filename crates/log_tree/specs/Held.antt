@@ -125,12 +125,12 @@ is_behind_full live r = (place_of r == 0) || elim (find (chunk_key (id_of r) (pl
 ]
 
 -- a node's key has 9 bytes; a name is one of a directory and has at most 255 bytes; a chunk is one of a file or of a
--- link, and stands in its place
+-- link, has the key of its place, and stands in its place
 abbrev pub has_place : Records → List ℕ → Bool
 has_place live r =
     if is_node r then length (key_of r) == 9
     else (if is_name r then is_dir live (id_of r) && nat_le 9 (length (key_of r)) && nat_le (length (key_of r)) 264
-    else (is_chunk r && (length (key_of r) == 13) && is_leaf live (id_of r) && nat_lt (place_of r) 17477 && has_bytes r
+    else (is_chunk r && bytes_eq (key_of r) (chunk_key (id_of r) (place_of r)) && is_leaf live (id_of r) && nat_lt (place_of r) 17477 && has_bytes r
     && is_behind_full live r))
 
 -- so many names may lead to a directory

@@ -3,14 +3,14 @@ use Rattle.std.specs.Prelude.{max, min}
 use Rattle.std.proofs.lemmas.List.{length-take}
 use Rattle.nfs2_types.specs.Bytes.{overwritten}
 use Rattle.log_segments.specs.Newest.{find}
-use Rattle.log_records.specs.Layout.{chunk_key}
+use Rattle.log_records.specs.Layout.{chunk_key, chunk_in}
 use Rattle.log_records.specs.Spelling.{record_of, chunk_value}
 use Rattle.log_tree.specs.Held.{Records}
 use Rattle.log_tree.proofs.StepLaws.{chunk_laws}
-use Rattle.log_store.specs.Store.{PutsChunk, KeepsOthers, live_in}
+use Rattle.log_store.specs.Store.{Puts, PutsChunk, KeepsOthers, live_in}
 use Rattle.log_store.proofs.StoreLaws.{chunk_key_is}
-use Rattle.log_files.specs.Chunked.{IsChunked, bytes_in}
-use Rattle.log_files.proofs.ChunkLaws.{has_before, wrote, chunked}
+use Rattle.log_files.specs.Chunked.{IsChunked, bytes_in, chunks_of}
+use Rattle.log_files.proofs.ChunkLaws.{has_before, wrote, chunked, chunks_more}
 use Rattle.log_files.proofs.write.write_bytes.Goals as goal
 
 pub returns-clause-wrote : goal.returns-clause-wrote
@@ -34,6 +34,9 @@ returns-clause-wrote g c =
     let put : PutsChunk live id place (overwritten at piece (bytes_in (find (chunk_key id place) live))) new =
     subst (λ (b : List ℕ). PutsChunk live id place b new) (c.as_slice-2.ensures.value ∙ patch)
     (subst (λ (l : Records). PutsChunk l id place c.as_slice-2.result.now new) same c.in_ok-put_chunk.ensures.puts) in
+    let key : Puts chunk_in live (chunk_key id place) c.as_slice-2.result.now new =
+    subst (λ (l : Records). Puts chunk_in l (chunk_key id place) c.as_slice-2.result.now new) same
+    c.in_ok-put_chunk.ensures.here in
     let others : KeepsOthers live (chunk_key id place) new =
     subst (λ (l : Records). KeepsOthers l (chunk_key id place) new) same c.in_ok-put_chunk.ensures.others in
     let few : place < 17477 = omega (arith, c.requires.end, c.requires.some) in
@@ -50,7 +53,11 @@ returns-clause-wrote g c =
       most = omega arith;
       ends = count;
       file = put.file;
+      alone = put.alone;
       others = others;
+      few = subst (λ (k : ℕ). length new + chunks_of a.size ≤ length live + chunks_of (max a.size (a.offset + k))) long
+          (chunks_more live new id a.size a.offset place at (length piece) c.requires.chunked c.requires.among is inside
+          some key);
       bytes_are = wrote live new id a.size a.offset place at piece c.requires.chunked c.requires.among is inside some
           end before put others c.told-id;
       chunked = subst (λ (k : ℕ). IsChunked new id (max a.size (a.offset + k))) long

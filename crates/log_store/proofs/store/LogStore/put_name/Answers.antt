@@ -4,6 +4,9 @@ use Rattle.log_tree.specs.Held.{tree_of}
 use Rattle.log_records.specs.Layout.{name_key}
 use Rattle.log_store.specs.Store.{KeepsOthers, live_in}
 use Rattle.log_store.proofs.StoreLaws.{name_stands, name_put, keeps_others, name_key_is}
+use Rattle.log_store.specs.Store.{Puts}
+use Rattle.log_store.proofs.PutLaws.{puts_name}
+use Rattle.log_records.specs.Layout.{child_in}
 use Rattle.log_store.proofs.store.LogStore.put_name.Goals as goal
 
 pub put-requires-clause-stands : goal.put-requires-clause-stands
@@ -23,3 +26,10 @@ returns-clause-others g c =
     ∙ ap (after live) c.name_record.ensures))
     (keeps_others live _ (name_key c.args.dir.now c.args.name.now)
     (name_key_is c.args.dir.now c.args.name.now c.args.child.now c.told-dir c.requires.name c.told-child))
+
+pub returns-clause-here : goal.returns-clause-here
+returns-clause-here g c =
+    let live = live_in g.M.Medium.content g.M.Medium.size c.args.self.now in
+    subst (Puts child_in live (name_key c.args.dir.now c.args.name.now) c.args.child.now) (sym (c.in_ok-put.ensures.live
+    ∙ ap (after live) c.name_record.ensures))
+    (puts_name live c.args.dir.now c.args.name.now c.args.child.now c.told-dir c.requires.name c.told-child)

@@ -1,0 +1,5 @@
+pub mod AttrLaws
+pub mod BytesLaws
+pub mod PlainLaws
+pub mod RoomLaws
+pub mod WipeLaws
