@@ -9,7 +9,7 @@ use Rattle.inode_dirs.specs.Files.{File, entry_of, table_of}
 use Rattle.inode_dirs.proofs.TableLaws.{IsSameBut}
 use Rattle.inode_dirs.proofs.SlotBytesLaws.{slots-append, slots-put, slots-cut}
 
-span-times : (n : ℕ) → span 288 slot_in n ≡ 288 * n
+pub span-times : (n : ℕ) → span 288 slot_in n ≡ 288 * n
 unfolding span
 span-times zero = refl
 span-times (suc n) = let ih = span-times n in omega (arith, ih)

@@ -1,5 +1,5 @@
 -- Pieces of one width: one more at the end, one in place of another, and fewer.
-use Rattle.std.proofs.Common.{◌≡◌, ℕ, zero, suc, ◌+◌, ◌<◌, ◌≤◌, arith, List, [], ◌∷◌, ◌++◌, take, drop, set, length, refl, sym, ap, ◌∙◌}
+use Rattle.std.proofs.Common.{◌≡◌, ℕ, zero, suc, ◌+◌, ◌<◌, ◌≤◌, arith, List, [], ◌∷◌, ◌++◌, take, drop, set, length, slice_get, Some, refl, sym, ap, ◌∙◌}
 use Rattle.std.proofs.lemmas.List.{take_all, drop_all, take-append-le, drop-append-le, length-drop, length-take-le, take-take, drop-take, drop-drop, nil_from_length, append_assoc}
 use Rattle.std.proofs.Math.Seq.{take-add}
 use Rattle.inode_dirs.specs.SlotBytes.{span, pieces, with_piece}
@@ -19,6 +19,21 @@ module _ {S : Type 0} (width : ℕ) (read : List ℕ → S) where
       ap (λ x. read x ∷ pieces width read (suc n) (drop width (b ++ s))) (take-append-le width b s first)
       ∙ ap (λ x. read (take width b) ∷ pieces width read (suc n) x) (drop-append-le width b s first)
       ∙ ap (λ l. read (take width b) ∷ l) (pieces-append n (drop width b) s (omega (arith, rest, size)) fits)
+
+  -- how many there are
+  pub length-pieces : (n : ℕ) (b : List ℕ) → length (pieces width read n b) ≡ n
+  unfolding pieces
+  length-pieces zero b = refl
+  length-pieces (suc n) b = ap suc (length-pieces n (drop width b))
+
+  -- one of them
+  pub pieces-get : (n k : ℕ) (b : List ℕ) → k < n →
+      slice_get (pieces width read n b) k ≡ Some (read (take width (drop (span width read k) b)))
+  unfolding span pieces
+  pieces-get zero k b l = absurd (omega (arith, l))
+  pieces-get (suc n) zero b l = refl
+  pieces-get (suc n) (suc k) b l = pieces-get n k (drop width b) (omega (arith, l))
+      ∙ ap (λ x. Some (read (take width x))) (drop-drop (span width read k) width b)
 
   -- fewer pieces
   pub pieces-cut : (n m : ℕ) (b : List ℕ) → n ≤ m → pieces width read n (take (span width read n) b) ≡ take n

@@ -1,9 +1,10 @@
 -- The table that files hold: each inode's kind, attributes and bytes.
-use Rattle.std.specs.Prelude.{ℕ, ◌/◌, List, length, Option}
+use Rattle.std.specs.Prelude.{◌≡◌, ℕ, ◌/◌, ◌%◌, List, [], length, Option, None, Some}
 use Rattle.std.specs.Option.{option_map}
 use Rattle.nfs2_types.specs.declared.fattr.Kind.{Kind}
 use Rattle.nfs2_types.specs.declared.fattr.Kind.TheVariants.{File as AFile, Dir, Link}
 use Rattle.inode_dirs.specs.SlotBytes.{slots_in}
+use Rattle.inode_dirs.specs.Slots.{Slots}
 use Rattle.inode_dirs.specs.Table.{Body, FileBytes, LinkText, DirSlots, Entry, Table}
 
 -- a used inode as a store of inodes has it
@@ -27,3 +28,17 @@ entry_of f = record { mode = f.mode; uid = f.uid; gid = f.gid; body = body_of f.
 -- the used inodes with their bytes read
 abbrev pub table_of : (ℕ → Option File) → Table
 table_of files i = option_map entry_of (files i)
+
+-- the slots that bytes hold
+abbrev pub slots_of : File → Slots
+slots_of f = slots_in (length f.bytes / 288) f.bytes
+
+-- the slots of an inode, if it is used
+abbrev pub slots_at : Option File → Slots
+slots_at None = []
+slots_at (Some f) = slots_of f
+
+-- a directory, whose bytes are whole slots
+pub record IsDirectory (f : File) : Type 0 where
+  pub kind : f.kind ≡ Dir
+  pub whole : length f.bytes % 288 ≡ 0

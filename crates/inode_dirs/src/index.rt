@@ -2,6 +2,7 @@
 
 ghost use Rattle.std.specs.Prelude.{◌≡◌, OnOk};
 ghost use Rattle.std.specs.FinMap as map;
+ghost use Rattle.inode_dirs.specs.Slots.{inode_by};
 
 use nfs2_types::NoMemory;
 use std::alloc::Global;
@@ -68,4 +69,11 @@ impl DirIndex {
     {
         self.rows.remove(name);
     }
+}
+
+/// The inode to which a name leads.
+pub fn find_name(index: &DirIndex, name: &[u8]) -> Option<u32>
+    ensures { result ≡ inode_by index.now name.now }
+{
+    index.get(name).map(|place| place.inode)
 }

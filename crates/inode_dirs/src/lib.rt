@@ -2,9 +2,7 @@
 #![tactic(auto)]
 
 mod index;
-mod names;
 mod slots;
 
-pub use index::{DirIndex, Place};
-pub use names::{add_name, find_name, remove_name};
-pub use slots::{Slot, SlotStore};
+pub use index::{DirIndex, Place, find_name};
+pub use slots::{Slot, format_slot, parse_slot};

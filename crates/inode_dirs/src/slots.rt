@@ -1,11 +1,10 @@
-//! Where the slots of directories are kept.
+//! A slot of a directory, and its bytes.
 
-ghost use Rattle.std.specs.Prelude.{◌≡◌, ◌≢◌, ◌++◌, ◌∷◌, [], ◌<◌, ℕ, true, length, OnOk, IfOk};
-ghost use Rattle.nfs2_types.specs.Names.{is_name};
-ghost use Rattle.outside.specs.Causes.{WriteHasCause};
-ghost use Rattle.inode_dirs.specs.Slots.{Slots, IsDropped};
+ghost use Rattle.std.specs.Prelude.{◌≡◌, ◌≤◌, length, IfOk};
+ghost use Rattle.inode_dirs.specs.SlotBytes.{slot_in, slot_bytes};
 
-use outside::MediumErr;
+use nfs2_types::NoMemory;
+use std::alloc::Global;
 
 /// A name and the inode that it leads to.
 #[derive(Debug, Drop)]
@@ -14,34 +13,25 @@ pub struct Slot {
     pub inode: u32,
 }
 
-/// The slots of directories, each in the bytes of its inode. After an error nothing is known of the slots.
-pub trait SlotStore {
-    /// The slots of each directory.
-    ghost slots: { Self → ℕ → Slots };
+/// What the 288 bytes of a slot say.
+pub fn parse_slot(alloc: Global, bytes: &[u8]) -> Result<Slot, NoMemory>
+    requires { length bytes.now ≡ 288 }
+    ensures { IfOk result (λ slot. slot_in bytes.now ≡ (slot.name.items, slot.inode)) }
+{
+    let end = 8 + bytes[4] as usize;
+    let name = Vec::from_slice(alloc, &bytes[8..end])?;
+    let inode = u32::from_be_bytes([bytes[0], bytes[1], bytes[2], bytes[3]]);
+    Ok(Slot { name, inode })
+}
 
-    /// A directory may get one slot more.
-    ghost has_room: { Self → ℕ → Type 0 };
-
-    /// How often the medium below failed.
-    ghost faults: { Self → ℕ };
-
-    /// How many slots a directory has.
-    fn count(&self, dir: u32) -> u32
-        ensures { result ≡ length (slots self.now dir) };
-
-    /// Puts a slot behind the others.
-    fn push(&mut self, dir: u32, name: &[u8], inode: u32) -> Result<(), MediumErr>
-        requires room { has_room self.old dir }
-        requires name { is_name name.now ≡ true }
-        ensures here { OnOk result (slots self.new dir ≡ slots self.old dir ++ (name.now, inode) ∷ []) }
-        ensures others { OnOk result ((k : ℕ) → k ≢ dir → slots self.new k ≡ slots self.old k) }
-        ensures cause { WriteHasCause (faults self.old) (faults self.new) result };
-
-    /// Takes a slot out by moving the last one to its place, and hands out what the last one was.
-    fn drop_slot(&mut self, dir: u32, slot: u32) -> Result<Slot, MediumErr>
-        requires { slot < length (slots self.old dir) }
-        ensures here { IfOk result (λ last.
-            IsDropped (slots self.old dir) slot last.name.items last.inode (slots self.new dir)) }
-        ensures others { OnOk result ((k : ℕ) → k ≢ dir → slots self.new k ≡ slots self.old k) }
-        ensures cause { WriteHasCause (faults self.old) (faults self.new) result };
+/// The 288 bytes of a slot.
+pub fn format_slot(name: &[u8], inode: u32) -> [u8; 288]
+    requires { length name.now ≤ 255 }
+    ensures { result ≡ slot_bytes name.now inode }
+{
+    let mut bytes = [0; 288];
+    bytes[..4].copy_from_slice(&inode.to_be_bytes());
+    bytes[4] = name.len() as u8;
+    bytes[8..8 + name.len()].copy_from_slice(name);
+    bytes
 }

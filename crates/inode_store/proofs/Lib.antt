@@ -3,7 +3,7 @@ pub mod ChangeLaws
 mod FormatLaws
 pub mod HeldLaws
 mod InodeWords
-mod OpLaws
-mod ResizeLaws
+pub mod OpLaws
+pub mod ResizeLaws
 pub mod RoomLaws
 mod WriteLaws

@@ -3,4 +3,6 @@ pub mod Held
 pub mod Inodes
 pub mod Keeps
 pub mod Kinds
+pub mod Layout
+pub mod Store
 pub mod Written

@@ -17,7 +17,7 @@ use pointer_tree::Area;
 use std::alloc::Global;
 
 /// The map of an area of which all blocks are free.
-fn free_area(alloc: Global, area: Area) -> Result<BlockMap, NoMemory>
+pub fn free_area(alloc: Global, area: Area) -> Result<BlockMap, NoMemory>
     requires { area.first ≤ area.end }
     ensures size { IfOk result (λ map. length map ≡ area.end) }
     ensures low { IfOk result (λ map. (b : ℕ) → b < area.first → is_free map b ≡ false) }

@@ -7,6 +7,7 @@ mod resize;
 mod store;
 mod write;
 
+pub use format::free_area;
 pub use inode::Inode;
 pub use store::InodeStore;
 

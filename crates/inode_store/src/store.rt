@@ -25,11 +25,10 @@ pub struct InodeStore<M> {
 }
 
 impl<M: Medium> InodeStore<M> {
-    /// An inode, if it is used. It reads one block.
-    pub fn get(&mut self, inode: u32) -> Result<Option<Inode>, MediumErr>
-        requires kept { Keeps self.old.area self.old.inodes (M.content self.old.medium) (M.size self.old.medium)
-            self.old.map }
-        requires within { inode < self.old.inodes }
+    /// An inode, if it is used, whatever else the medium holds. It reads one block.
+    pub fn load(&mut self, inode: u32) -> Result<Option<Inode>, MediumErr>
+        requires on_medium { 1 + inode < M.size self.old.medium }
+        requires fits { 1 + inode < 2 ^ 32 }
         ensures inode { IfOk result (λ x. x ≡ inode_at self.old.area (M.content self.old.medium) inode) }
         ensures content { M.content self.new.medium ≡ M.content self.old.medium }
         ensures size { M.size self.new.medium ≡ M.size self.old.medium }
@@ -43,8 +42,24 @@ impl<M: Medium> InodeStore<M> {
         Ok(Inode::from_block(&block, self.area))
     }
 
-    /// An inode that is used.
-    pub(crate) fn used(&mut self, inode: u32) -> Result<Inode, MediumErr>
+    /// An inode, if it is used. It reads one block.
+    pub fn get(&mut self, inode: u32) -> Result<Option<Inode>, MediumErr>
+        requires kept { Keeps self.old.area self.old.inodes (M.content self.old.medium) (M.size self.old.medium)
+            self.old.map }
+        requires within { inode < self.old.inodes }
+        ensures inode { IfOk result (λ x. x ≡ inode_at self.old.area (M.content self.old.medium) inode) }
+        ensures content { M.content self.new.medium ≡ M.content self.old.medium }
+        ensures size { M.size self.new.medium ≡ M.size self.old.medium }
+        ensures map { self.new.map ≡ self.old.map }
+        ensures area { self.new.area ≡ self.old.area }
+        ensures inodes { self.new.inodes ≡ self.old.inodes }
+        ensures cause { WriteHasCause (M.faults self.old.medium) (M.faults self.new.medium) result }
+    {
+        self.load(inode)
+    }
+
+    /// An inode that is used. It reads one block.
+    pub fn used(&mut self, inode: u32) -> Result<Inode, MediumErr>
         requires kept { Keeps self.old.area self.old.inodes (M.content self.old.medium) (M.size self.old.medium)
             self.old.map }
         requires within { inode < self.old.inodes }

@@ -46,6 +46,7 @@ impl<M: Medium> InodeStore<M> {
             (option_map (with_bytes (overwritten offset (take n piece.now)))
             (file_at self.old.area (M.content self.old.medium) inode))
             (M.content self.old.medium) (M.content self.new.medium) self.new.map) }
+        ensures room { OnOk result (free_count self.old.map ≤ free_count self.new.map + 7) }
         ensures area { self.new.area ≡ self.old.area }
         ensures inodes { self.new.inodes ≡ self.old.inodes }
         ensures size { M.size self.new.medium ≡ M.size self.old.medium }

@@ -1,0 +1,2 @@
+mod OverwriteLaws
+pub mod ChangeLaws

@@ -1,0 +1,17 @@
+pub mod RowLaws
+pub mod TiedLaws
+pub mod TakeLaws
+pub mod GiveLaws
+pub mod DirLaws
+pub mod MoreLaws
+pub mod LessLaws
+pub mod EditLaws
+pub mod SizeLaws
+pub mod BoundLaws
+pub mod WholeLaws
+pub mod DirCalls
+pub mod WipeLaws
+pub mod TextLaws
+pub mod ReadLaws
+pub mod LookLaws
+pub mod BelowLaws

@@ -1,0 +1,6 @@
+pub mod Changes
+pub mod Handles
+pub mod Kept
+pub mod Sound
+pub mod Tables
+pub mod Whole
