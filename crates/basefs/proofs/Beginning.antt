@@ -66,7 +66,7 @@ module _ {X : Type 0} (state : X → Server) (limits : Limits) (kept : Kept) (se
     record {
       events = [];
       goes = subst (λ (q : List Request). Goes left left log
-          (records_from 16777216 limits.f (length servers) limits.k q 24) []) (sym s.requests) (Goes-none left log);
+          (records_from 16777216 limits.f (length servers) q 24) []) (sym s.requests) (Goes-none left log);
       here = here;
       printed = appended_all held [] (Appends-none held) w text_is;
     },
@@ -81,7 +81,7 @@ module _ {X : Type 0} (state : X → Server) (limits : Limits) (kept : Kept) (se
   begun_failed left held held' f w =
       let none = Goes-none left log in
       ran_here here (ends_at_write f none)
-      (λ e. unread_at_write none (nothing_more 16777216 limits.f (length servers) limits.k [] 24))
+      (λ e. unread_at_write none (nothing_more 16777216 limits.f (length servers) [] 24))
       (printed_part [] (Appends-none held) w text_is) (cut_start here _)
 
 -- the start did not go through

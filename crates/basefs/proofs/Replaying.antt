@@ -1,16 +1,20 @@
 -- A replay from its header on.
-use Rattle.std.proofs.Common.{◌≡◌, inl, inr, ℕ, ◌+◌, ◌*◌, ltb, List, [], ◌++◌, length, Option, Some, None, Ok, Err, refl, sym, ap, subst, ◌∙◌, arith}
+use Rattle.std.proofs.Common.{◌≡◌, ◌⊎◌, inl, inr, ℕ, ◌+◌, ◌*◌, ◌^◌, ◌<◌, ◌≤◌, Bool, true, false, ◌||◌, ◌&&◌, ltb, List, [], ◌++◌, length, Option, Some, None, Ok, Err, refl, sym, ap, subst, ◌∙◌, arith}
+use Rattle.std.specs.Prelude.{◌==◌, nat_le}
 use Rattle.std.specs.Io.KnownBytes.{Consumes}
+use Rattle.std.proofs.lemmas.Bool.{eqb-true, leb-true}
 use Rattle.std.proofs.lemmas.List.{append-nil}
 use Rattle.server_trait.specs.Tree.{Server}
 use Rattle.server_trait.specs.declared.ServerLimits.{ServerLimits}
 use Rattle.server_trait.specs.declared.ConfTable.{ConfTable}
 use Rattle.server_trait.specs.declared.FaultPoint.{FaultPoint}
 use Rattle.log_format.specs.declared.Header.{Header}
-use Rattle.log_format.specs.Records.{header_at}
+use Rattle.log_format.specs.Records.{header_at, is_within}
 use Rattle.log_stream.specs.declared.ReadErr.{ReadErr}
 use Rattle.log_stream.specs.declared.ReadErr.TheVariants as read
 use Rattle.log_stream.specs.Reading.{Refuses as Unread, Reads}
+use Rattle.cluster_model.proofs.VotedRuns.{and_true}
+use Rattle.service_laws.specs.Served.{IsSized}
 use Rattle.cluster.specs.Positions.{AreLater}
 use Rattle.cluster.specs.OverBench.{HaveRoom}
 use Rattle.basefs.specs.declared.status.Status.{Status}
@@ -23,6 +27,29 @@ use Rattle.basefs.specs.Replayed.{IsBench, Refuses, replicas_of, Replayed}
 use Rattle.basefs.proofs.Records.{or_false}
 use Rattle.cluster.proofs.Struck.{later_none}
 use Rattle.basefs.proofs.Taking.{HoldsOf-always, IfSome-then, prefix_none, Ends-then}
+
+-- the numbers of entries are those of the service
+number_of : (n : ℕ) (a b c : Bool) → (n == 16) ≡ a → (n == 256) ≡ b → (n == 4096) ≡ c → (a || (b || c)) ≡ true →
+    (n ≡ 16) ⊎ ((n ≡ 256) ⊎ (n ≡ 4096))
+number_of n true b c ea eb ec h = inl (eqb-true n 16 ea)
+number_of n false true c ea eb ec h = inr (inl (eqb-true n 256 eb))
+number_of n false false true ea eb ec h = inr (inr (eqb-true n 4096 ec))
+number_of n false false false ea eb ec h = absurd cc
+
+-- a header that was read has the limits of the service
+pub header_sized : (h : Header) → is_within h ≡ true → IsSized (limits_of h)
+header_sized h within =
+    let f = nat_le h.f 2 in
+    let n = h.n == 16 || (h.n == 256 || h.n == 4096) in
+    let k = nat_le 1 h.k && nat_le h.k 1024 in
+    let t = nat_le 512 h.t && nat_le h.t 16777216 in
+    let last = and_true (f && n && k) t within in
+    let first = and_true f n (and_true (f && n) k last.0).0 in
+    let low : h.t ≤ 16777216 = leb-true h.t 16777216 (and_true (nat_le 512 h.t) (nat_le h.t 16777216) last.1).1 in
+    record {
+      entries = number_of h.n (h.n == 16) (h.n == 256) (h.n == 4096) refl refl refl first.1;
+      space = omega arith;
+    }
 
 -- servers of which none is too small have room
 pub large_have_room : {X : Type 0} (state : X → Server) (h : Header) (servers : List X) →

@@ -12,6 +12,7 @@ use Rattle.cluster_model.specs.Turns.{last, moments}
 use Rattle.cluster_model.specs.Loose.{LooseStep}
 use Rattle.cluster_model.specs.Calm.{IsHarmless}
 use Rattle.cluster_model.specs.Run.{fresh, start, start_fault, LooseFrom, LooseRun, Always, IsOnce, replies}
+use Rattle.cluster_model.specs.Served.{IsServed}
 use Rattle.cluster_model.proofs.Growing.{faults_behind}
 use Rattle.cluster_model.proofs.Lines.{Chain}
 use Rattle.cluster_model.proofs.Failures.{run_chain}
@@ -21,7 +22,7 @@ use Rattle.cluster_model.proofs.CalmRuns.{loose_run_calm}
 use Rattle.service_laws.specs.Served.{service}
 use Rattle.service_laws.proofs.Served.{service_orderly}
 use Rattle.cluster.specs.Steps.{is_built}
-use Rattle.basefs.specs.Run.{IsServed, IsTold, end_of}
+use Rattle.basefs.specs.Run.{IsTold, end_of}
 
 -- FAULT POINTS OF LATER RECORDS MAKE NO DIFFERENCE
 
@@ -80,7 +81,7 @@ module _ (limits : Limits) (servers : ℕ) (downs : List FaultPoint) (events : L
             (run_once (service limits) servers downs events ms loose));
       }
 
-  pub run_served : All IsHarmless events → Always (IsServed limits) ms
+  pub run_served : All IsHarmless events → Always (IsServed (service limits)) ms
   run_served harmless =
       loose_run_calm (service limits) (service_orderly limits) servers downs events harmless ms loose
 

@@ -76,32 +76,32 @@ Ends-then {old = old} {mid = mid} {left = left} {log = log} {rest = rest} {s = s
 
 -- ONE RECORD
 
-refused : (n f servers k : ℕ) (q : List Request) (place : ℕ) (taken : List ℕ) (left : Option (List ℕ)) (e : ReadErr) → Refuses (record_at f servers) taken left e → Says (read_status e place) (records_from (suc n) f servers k q place) taken left []
-refused n f servers k q place taken left read.Failed h = ap (λ (l : Log). l.events) (records_none n f servers k q place taken h)
-refused n f servers k q place taken left read.NoMemory h = HoldsOf-always (records_from (suc n) f servers k q place) taken left (λ l. IsPrefix [] l.events) (λ more. prefix_none (records_from (suc n) f servers k q place (taken ++ more)).events)
-refused n f servers k q place taken left read.Wrong h = (
-  records_none n f servers k q place taken h.0,
-  IfSome-then left (λ more. record_at f servers (taken ++ more) ≡ None) (λ more. records_from (suc n) f servers k q place (taken ++ more) ≡ record { events = []; stop = bad place }) (λ more g. records_none n f servers k q place (taken ++ more) g) h.1,
+refused : (n f servers : ℕ) (q : List Request) (place : ℕ) (taken : List ℕ) (left : Option (List ℕ)) (e : ReadErr) → Refuses (record_at f servers) taken left e → Says (read_status e place) (records_from (suc n) f servers q place) taken left []
+refused n f servers q place taken left read.Failed h = ap (λ (l : Log). l.events) (records_none n f servers q place taken h)
+refused n f servers q place taken left read.NoMemory h = HoldsOf-always (records_from (suc n) f servers q place) taken left (λ l. IsPrefix [] l.events) (λ more. prefix_none (records_from (suc n) f servers q place (taken ++ more)).events)
+refused n f servers q place taken left read.Wrong h = (
+  records_none n f servers q place taken h.0,
+  IfSome-then left (λ more. record_at f servers (taken ++ more) ≡ None) (λ more. records_from (suc n) f servers q place (taken ++ more) ≡ record { events = []; stop = bad place }) (λ more g. records_none n f servers q place (taken ++ more) g) h.1,
 )
 
 -- no record was read
-pub over_read : {old left : Option (List ℕ)} {e : ReadErr} (n f servers k : ℕ) (q : List Request) (place : ℕ) → Reads (record_at f servers) (λ (x : Event). x) old left (Err e) → Ends old left (records_from (suc n) f servers k q place) (read_status e place) []
-over_read {left = left} {e = e} n f servers k q place r = record { taken = r.taken; consumed = r.consumed; says = refused n f servers k q place r.taken left e r.outcome }
+pub over_read : {old left : Option (List ℕ)} {e : ReadErr} (n f servers : ℕ) (q : List Request) (place : ℕ) → Reads (record_at f servers) (λ (x : Event). x) old left (Err e) → Ends old left (records_from (suc n) f servers q place) (read_status e place) []
+over_read {left = left} {e = e} n f servers q place r = record { taken = r.taken; consumed = r.consumed; says = refused n f servers q place r.taken left e r.outcome }
 
 -- a record was read, and is wrong
-pub over_wrong : {old left : Option (List ℕ)} {e : Event} (n f servers k : ℕ) (q : List Request) (place : ℕ) → Reads (record_at f servers) (λ (x : Event). x) old left (Ok e) → judge k q e ≡ verdict.Wrong → Ends old left (records_from (suc n) f servers k q place) (status.BadLog place) []
-over_wrong {left = left} {e = e} n f servers k q place r j = record {
+pub over_wrong : {old left : Option (List ℕ)} {e : Event} (n f servers : ℕ) (q : List Request) (place : ℕ) → Reads (record_at f servers) (λ (x : Event). x) old left (Ok e) → judge q e ≡ verdict.Wrong → Ends old left (records_from (suc n) f servers q place) (status.BadLog place) []
+over_wrong {left = left} {e = e} n f servers q place r j = record {
   taken = r.taken;
   consumed = r.consumed;
-  says = HoldsOf-always (records_from (suc n) f servers k q place) r.taken left (λ l. l ≡ record { events = []; stop = bad place }) (λ more. records_wrong n f servers k q place (r.taken ++ more) more e (r.outcome more) j);
+  says = HoldsOf-always (records_from (suc n) f servers q place) r.taken left (λ l. l ≡ record { events = []; stop = bad place }) (λ more. records_wrong n f servers q place (r.taken ++ more) more e (r.outcome more) j);
 }
 
 -- a record was read, and is not built
-pub over_waits : {old left : Option (List ℕ)} {e : Event} (n f servers k : ℕ) (q : List Request) (place : ℕ) → Reads (record_at f servers) (λ (x : Event). x) old left (Ok e) → judge k q e ≡ verdict.Waits → Ends old left (records_from (suc n) f servers k q place) (status.NotBuilt place) []
-over_waits {left = left} {e = e} n f servers k q place r j = record {
+pub over_waits : {old left : Option (List ℕ)} {e : Event} (n f servers : ℕ) (q : List Request) (place : ℕ) → Reads (record_at f servers) (λ (x : Event). x) old left (Ok e) → judge q e ≡ verdict.Waits → Ends old left (records_from (suc n) f servers q place) (status.NotBuilt place) []
+over_waits {left = left} {e = e} n f servers q place r j = record {
   taken = r.taken;
   consumed = r.consumed;
-  says = HoldsOf-always (records_from (suc n) f servers k q place) r.taken left (λ l. l ≡ record { events = []; stop = not_built place }) (λ more. records_wait n f servers k q place (r.taken ++ more) more e (r.outcome more) j);
+  says = HoldsOf-always (records_from (suc n) f servers q place) r.taken left (λ l. l ≡ record { events = []; stop = not_built place }) (λ more. records_wait n f servers q place (r.taken ++ more) more e (r.outcome more) j);
 }
 
 -- memory wanted before a record was stepped
@@ -109,14 +109,14 @@ pub over_memory : {old left : Option (List ℕ)} {e : Event} (f servers : ℕ) (
 over_memory {left = left} f servers log r = record { taken = r.taken; consumed = r.consumed; says = HoldsOf-always log r.taken left (λ l. IsPrefix [] l.events) (λ more. prefix_none (log (r.taken ++ more)).events) }
 
 -- a record was read and stepped
-pub one_goes : {old left : Option (List ℕ)} {e : Event} (n f servers k : ℕ) (q : List Request) (place : ℕ) → Reads (record_at f servers) (λ (x : Event). x) old left (Ok e) → judge k q e ≡ verdict.Goes
-    → Goes old left (records_from (suc n) f servers k q place) (records_from n f servers k (q ++ asked_by e) (place + record_len e)) (e ∷ [])
-one_goes {e = e} n f servers k q place r j = record { taken = r.taken; consumed = r.consumed; goes = λ more. spelled_goes n f servers k q place r.taken e r.outcome j more }
+pub one_goes : {old left : Option (List ℕ)} {e : Event} (n f servers : ℕ) (q : List Request) (place : ℕ) → Reads (record_at f servers) (λ (x : Event). x) old left (Ok e) → judge q e ≡ verdict.Goes
+    → Goes old left (records_from (suc n) f servers q place) (records_from n f servers (q ++ asked_by e) (place + record_len e)) (e ∷ [])
+one_goes {e = e} n f servers q place r j = record { taken = r.taken; consumed = r.consumed; goes = λ more. spelled_goes n f servers q place r.taken e r.outcome j more }
 
 -- the last record was read and stepped
-pub last_goes : {old left : Option (List ℕ)} {e : Event} (n f servers k : ℕ) (q : List Request) (place : ℕ) → Reads (record_at f servers) (λ (x : Event). x) old left (Ok e) → judge k q e ≡ verdict.Ends
-    → Goes old left (records_from (suc n) f servers k q place) (λ more. stops (behind_last (place + record_len e) more)) (e ∷ [])
-last_goes {e = e} n f servers k q place r j = record { taken = r.taken; consumed = r.consumed; goes = λ more. spelled_ends n f servers k q place r.taken e r.outcome j more }
+pub last_goes : {old left : Option (List ℕ)} {e : Event} (n f servers : ℕ) (q : List Request) (place : ℕ) → Reads (record_at f servers) (λ (x : Event). x) old left (Ok e) → judge q e ≡ verdict.Ends
+    → Goes old left (records_from (suc n) f servers q place) (λ more. stops (behind_last (place + record_len e) more)) (e ∷ [])
+last_goes {e = e} n f servers q place r j = record { taken = r.taken; consumed = r.consumed; goes = λ more. spelled_ends n f servers q place r.taken e r.outcome j more }
 
 finish_says : (f : Status) (b : List ℕ) (place : ℕ) (left : Option (List ℕ)) → FinishSays f place b left → Says f (λ more. stops (behind_last place more)) b left []
 finish_says status.Done b place left f = (ap (λ (t : List ℕ). stops (behind_last place t)) f.0, f.1)
@@ -136,9 +136,9 @@ pub over_finish : {old left : Option (List ℕ)} {f : Status} (place : ℕ) → 
 over_finish {left = left} {f = f} place q = record { taken = q.taken; consumed = q.consumed; says = finish_says f q.taken place left q.says }
 
 -- no more records are read
-pub over_most : (left : Option (List ℕ)) (f servers k : ℕ) (q : List Request) (place : ℕ) → Ends left left (records_from 0 f servers k q place) (status.BadLog place) []
-over_most left f servers k q place = record {
+pub over_most : (left : Option (List ℕ)) (f servers : ℕ) (q : List Request) (place : ℕ) → Ends left left (records_from 0 f servers q place) (status.BadLog place) []
+over_most left f servers q place = record {
   taken = [];
   consumed = Consumes-none left;
-  says = HoldsOf-always (records_from 0 f servers k q place) [] left (λ l. l ≡ record { events = []; stop = bad place }) (λ more. records_zero f servers k q place more);
+  says = HoldsOf-always (records_from 0 f servers q place) [] left (λ l. l ≡ record { events = []; stop = bad place }) (λ more. records_zero f servers q place more);
 }

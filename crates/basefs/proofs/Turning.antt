@@ -42,9 +42,9 @@ unfolding front_at event_plan item_at item_in
 none_left f servers = refl
 
 -- no bytes are no records
-pub nothing_more : (n f servers k : ℕ) (q : List Request) (place : ℕ) → (records_from n f servers k q place []).events ≡ []
-nothing_more zero f servers k q place = ap (λ (l : Log). l.events) (records_zero f servers k q place [])
-nothing_more (suc n) f servers k q place = ap (λ (l : Log). l.events) (records_none n f servers k q place [] (none_left f servers))
+pub nothing_more : (n f servers : ℕ) (q : List Request) (place : ℕ) → (records_from n f servers q place []).events ≡ []
+nothing_more zero f servers q place = ap (λ (l : Log). l.events) (records_zero f servers q place [])
+nothing_more (suc n) f servers q place = ap (λ (l : Log). l.events) (records_none n f servers q place [] (none_left f servers))
 
 module _ {old left : Option (List ℕ)} {log rest : List ℕ → Log} {events : List Event} where
   front_of : (p : Goes old left log rest events) → HoldsOf log p.taken left (λ l. IsPrefix events l.events)
@@ -80,7 +80,7 @@ module _ {X : Type 0} {state : X → Server} where
       {servers : List X} {tables : List ConfTable} {downs : List FaultPoint} {kept : Kept} {n place : ℕ} {s : Status} →
       Going state limits log old (setting left held servers tables downs) kept n place →
       (s ≡ status.WriteFault → ⊥) →
-      Ends left left' (records_from n limits.f (length old.servers) limits.k kept.requests place) s [] →
+      Ends left left' (records_from n limits.f (length old.servers) kept.requests place) s [] →
       Ran state limits log old (setting left' held servers tables downs) s
   stops_here {log = log} {old = old} {left' = left'} {s = s} g differs ends =
       ran_here g.here (subst (Ends old.left left' log s) (append-nil g.events) (Ends-then g.goes ends))
@@ -93,7 +93,7 @@ module _ {X : Type 0} {state : X → Server} where
       Ran state limits log old (setting left held servers tables downs) (status.BadLog place)
   stops_most {limits = limits} {old = old} {left = left} {kept = kept} {place = place} g =
       stops_here g (λ e. let f : status.BadLog place ≡ status.WriteFault = e in cc)
-      (over_most left limits.f (length old.servers) limits.k kept.requests place)
+      (over_most left limits.f (length old.servers) kept.requests place)
 
   -- no record was read
   pub turn_read : {l : Limits} {left left' held : Option (List ℕ)} {servers : List X} {tables : List ConfTable}
@@ -104,7 +104,7 @@ module _ {X : Type 0} {state : X → Server} where
   turn_read {left = left} {left' = left'} {servers = servers} {kept = kept} {place = place} {e = e} is r
       limits log old n g =
       stops_here g (read_no_write e place)
-      (over_read n limits.f (length old.servers) limits.k kept.requests place
+      (over_read n limits.f (length old.servers) kept.requests place
       (subst (λ (k : ℕ). Reads (record_at limits.f k) (λ (y : Event). y) left left' (Err e)) g.here.later.size
       (subst (λ (x : Limits). Reads (record_at x.f (length servers)) (λ (y : Event). y) left left' (Err e))
       (is ∙ g.here.limits_are) r)))
@@ -116,10 +116,6 @@ module _ {X : Type 0} (state : X → Server) (l : Limits) (left left' held : Opt
   Before limits log old n = Going state limits log old (setting left held servers tables downs) kept n place
 
   module _ (limits : Limits) (log : List ℕ → Log) (old : Setting X) (n : ℕ) where
-    judged : (v : verdict.the_data) → Before limits log old n → judge l.k kept.requests e ≡ v →
-        judge limits.k kept.requests e ≡ v
-    judged v g j = subst (λ (x : Limits). judge x.k kept.requests e ≡ v) (kept_l ∙ g.here.limits_are) j
-
     -- the record, as the limits of the run have it
     taken_by : Before limits log old n →
         Reads (record_at limits.f (length old.servers)) (λ (x : Event). x) left left' (Ok e)
@@ -128,21 +124,21 @@ module _ {X : Type 0} (state : X → Server) (l : Limits) (left left' held : Opt
         (subst (λ (x : Limits). Reads (record_at x.f (length servers)) (λ (y : Event). y) left left' (Ok e))
         (kept_l ∙ g.here.limits_are) r)
 
-  pub turn_wrong : judge l.k kept.requests e ≡ verdict.Wrong →
+  pub turn_wrong : judge kept.requests e ≡ verdict.Wrong →
       Turns state (setting left held servers tables downs) (setting left' held servers tables downs) kept kept place
       (turns.Over (status.BadLog place))
   turn_wrong j limits log old n g =
       stops_here g (λ e. let f : status.BadLog place ≡ status.WriteFault = e in cc)
-      (over_wrong n limits.f (length old.servers) limits.k kept.requests place (taken_by limits log old (suc n) g)
-      (judged limits log old (suc n) verdict.Wrong g j))
+      (over_wrong n limits.f (length old.servers) kept.requests place (taken_by limits log old (suc n) g)
+      j)
 
-  pub turn_waits : judge l.k kept.requests e ≡ verdict.Waits →
+  pub turn_waits : judge kept.requests e ≡ verdict.Waits →
       Turns state (setting left held servers tables downs) (setting left' held servers tables downs) kept kept place
       (turns.Over (status.NotBuilt place))
   turn_waits j limits log old n g =
       stops_here g (λ e. let f : status.NotBuilt place ≡ status.WriteFault = e in cc)
-      (over_waits n limits.f (length old.servers) limits.k kept.requests place (taken_by limits log old (suc n) g)
-      (judged limits log old (suc n) verdict.Waits g j))
+      (over_waits n limits.f (length old.servers) kept.requests place (taken_by limits log old (suc n) g)
+      j)
 
   module _ (held' : Option (List ℕ)) (servers' : List X) (tables' : List ConfTable) (downs' : List FaultPoint)
       (kept' : Kept) (later : AreLater state (3 * kept.limits.f + 1) servers servers') where
@@ -152,27 +148,27 @@ module _ {X : Type 0} (state : X → Server) (l : Limits) (left left' held : Opt
         subst (λ (x : Limits). AreLater state (3 * x.f + 1) servers servers') g.here.limits_are later
 
     -- a record was stepped, and its lines were written
-    pub turn_goes : (x : Unit) → judge l.k kept.requests e ≡ verdict.Goes →
+    pub turn_goes : (x : Unit) → judge kept.requests e ≡ verdict.Goes →
         Written state kept kept' servers servers' tables tables' downs downs' held held' e (Ok x) →
         Turns state (setting left held servers tables downs) (setting left' held' servers' tables' downs') kept kept'
         place (turns.Goes (place + record_len e))
     turn_goes x j w limits log old n g =
-        let harmless = goes_harmless l.k kept.requests e j in
+        let harmless = goes_harmless kept.requests e j in
         let more = since limits log old (suc n) g in
         record {
           events = g.events ++ e ∷ [];
           goes = subst (λ (q : List Request). Goes old.left left' log
-              (records_from n limits.f (length old.servers) limits.k q (place + record_len e)) (g.events ++ e ∷ []))
+              (records_from n limits.f (length old.servers) q (place + record_len e)) (g.events ++ e ∷ []))
               (sym w.steps.requests)
-              (Goes-then g.goes (one_goes n limits.f (length old.servers) limits.k kept.requests place
-              (taken_by limits log old (suc n) g) (judged limits log old (suc n) verdict.Goes g j)));
+              (Goes-then g.goes (one_goes n limits.f (length old.servers) kept.requests place
+              (taken_by limits log old (suc n) g) j));
           here = here_more g.here w.steps harmless more;
           printed = appended_all old.held _ g.printed w.writes (text_more g.here w.steps harmless more);
         }
 
     wrote_part : (limits : Limits) (log : List ℕ → Log) (old : Setting X) (n : ℕ) (f : RunErr)
         (rest : List ℕ → Log) → IsHarmless e → (rest []).events ≡ [] → (g : Before limits log old (suc n)) →
-        Goes left left' (records_from (suc n) limits.f (length old.servers) limits.k kept.requests place) rest
+        Goes left left' (records_from (suc n) limits.f (length old.servers) kept.requests place) rest
         (e ∷ []) →
         Written state kept kept' servers servers' tables tables' downs downs' held held' e (Err f) →
         Ran state limits log old (setting left' held' servers' tables' downs') (run_status f)
@@ -194,7 +190,7 @@ module _ {X : Type 0} (state : X → Server) (l : Limits) (left left' held : Opt
         status.NoMemory) (sym h)
         (ran_short g.here (since limits log old n g)
         (subst (Ends old.left left' log status.NoMemory) (append-nil g.events) (Ends-then g.goes (over_memory limits.f
-        (length old.servers) (records_from n limits.f (length old.servers) limits.k kept.requests place)
+        (length old.servers) (records_from n limits.f (length old.servers) kept.requests place)
         (taken_by limits log old n g))))
         (printed_all status.NoMemory g.printed) (cut_whole g.here)))
 
@@ -204,40 +200,40 @@ module _ {X : Type 0} (state : X → Server) (l : Limits) (left left' held : Opt
 
     -- a record was stepped, or memory wanted, and its lines were not all written
     pub turn_failed : (f : RunErr) →
-        (judge l.k kept.requests e ≡ verdict.Goes) ⊎ (judge l.k kept.requests e ≡ verdict.Ends) →
+        (judge kept.requests e ≡ verdict.Goes) ⊎ (judge kept.requests e ≡ verdict.Ends) →
         Stepped state kept kept' servers servers' tables tables' downs downs' held held' e (Err f) →
         Turns state (setting left held servers tables downs) (setting left' held' servers' tables' downs') kept kept'
         place (turns.Over (run_status f))
     turn_failed f (inl j) (inl w) limits log old n g =
         wrote_part limits log old n f
-        (records_from n limits.f (length old.servers) limits.k (kept.requests ++ asked_by e) (place + record_len e))
-        (goes_harmless l.k kept.requests e j)
-        (nothing_more n limits.f (length old.servers) limits.k (kept.requests ++ asked_by e) (place + record_len e)) g
-        (one_goes n limits.f (length old.servers) limits.k kept.requests place (taken_by limits log old (suc n) g)
-        (judged limits log old (suc n) verdict.Goes g j)) w
+        (records_from n limits.f (length old.servers) (kept.requests ++ asked_by e) (place + record_len e))
+        (goes_harmless kept.requests e j)
+        (nothing_more n limits.f (length old.servers) (kept.requests ++ asked_by e) (place + record_len e)) g
+        (one_goes n limits.f (length old.servers) kept.requests place (taken_by limits log old (suc n) g)
+        j) w
     turn_failed f (inr j) (inl w) limits log old n g =
         wrote_part limits log old n f (λ more. stops (behind_last (place + record_len e) more))
-        (ends_harmless l.k kept.requests e j) refl g
-        (last_goes n limits.f (length old.servers) limits.k kept.requests place (taken_by limits log old (suc n) g)
-        (judged limits log old (suc n) verdict.Ends g j)) w
+        (ends_harmless kept.requests e j) refl g
+        (last_goes n limits.f (length old.servers) kept.requests place (taken_by limits log old (suc n) g)
+        j) w
     turn_failed f j (inr w) limits log old n g =
         subst (Ran state limits log old (setting left' held' servers' tables' downs')) (sym (err_is f _ refl w.is))
         (wanted limits log old (suc n) w.downs_stay w.held_stay g)
 
     -- the last record was stepped, its lines were written, and what stands behind it was looked at
-    pub turn_ends : (x : Unit) (left'' : Option (List ℕ)) (f : Status) → judge l.k kept.requests e ≡ verdict.Ends →
+    pub turn_ends : (x : Unit) (left'' : Option (List ℕ)) (f : Status) → judge kept.requests e ≡ verdict.Ends →
         Written state kept kept' servers servers' tables tables' downs downs' held held' e (Ok x) →
         Finishes left' left'' (place + record_len e) f →
         Turns state (setting left held servers tables downs) (setting left'' held' servers' tables' downs') kept kept'
         place (turns.Over f)
     turn_ends x left'' f j w finish limits log old n g =
-        let harmless = ends_harmless l.k kept.requests e j in
+        let harmless = ends_harmless kept.requests e j in
         let more = since limits log old (suc n) g in
         let here = here_more g.here w.steps harmless more in
         ran_here here
         (subst (Ends old.left left'' log f) (append-nil (g.events ++ e ∷ []))
-        (Ends-then (Goes-then g.goes (last_goes n limits.f (length old.servers) limits.k kept.requests place
-        (taken_by limits log old (suc n) g) (judged limits log old (suc n) verdict.Ends g j)))
+        (Ends-then (Goes-then g.goes (last_goes n limits.f (length old.servers) kept.requests place
+        (taken_by limits log old (suc n) g) j))
         (over_finish (place + record_len e) finish)))
         (λ e. absurd (finish_no_write finish e))
         (printed_all f (appended_all old.held _ g.printed w.writes (text_more g.here w.steps harmless more)))

@@ -23,7 +23,7 @@ pub record Unstarted {X : Type 0} (state : X → Server) (limits : Limits) (old 
 
 -- the records of a log that begin at byte 24, over so many servers
 abbrev pub all_records : Limits → ℕ → List ℕ → Log
-all_records limits servers = records_from 16777216 limits.f servers limits.k [] 24
+all_records limits servers = records_from 16777216 limits.f servers [] 24
 
 -- the replicas were started and their lines written; or some of these; or nothing was started
 abbrev pub Begun : {X : Type 0} → (X → Server) → Limits → Setting X → Setting X → Result Cluster RunErr → Type 0

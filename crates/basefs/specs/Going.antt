@@ -60,7 +60,7 @@ pub record Going {X : Type 0} (state : X → Server) (limits : Limits) (log : Li
     (kept : Kept) (n place : ℕ) : Type 0 where
   pub events : List Event
   pub goes : Goes old.left now.left log
-      (records_from n limits.f (length old.servers) limits.k kept.requests place) events
+      (records_from n limits.f (length old.servers) kept.requests place) events
   pub here : Here state limits old.servers now.servers now.tables now.downs kept events
   pub printed : Appends old.held now.held (text_of (end_of limits (length old.servers) here.ms).lines)
 

@@ -1,5 +1,5 @@
 -- The log: a header and records, up to the first that stops a run.
-use Rattle.std.specs.Prelude.{ℕ, zero, suc, ◌+◌, ◌-◌, ◌*◌, ◌%◌, ◌==◌, ◌||◌, nat_lt, nat_le, Bool, false, List, [], ◌∷◌, length, Option, Some, None, slice_get, option_map, ◌++◌, if◌then◌else◌}
+use Rattle.std.specs.Prelude.{ℕ, zero, suc, ◌+◌, ◌-◌, ◌*◌, ◌||◌, nat_lt, nat_le, Bool, false, List, [], ◌∷◌, length, Option, Some, None, slice_get, option_map, ◌++◌, if◌then◌else◌}
 use Rattle.std.specs.List.{position_from}
 use Rattle.std.specs.Option.{option_map_or}
 use Rattle.nfs2_types.specs.declared.Limits.{Limits}
@@ -25,19 +25,15 @@ last_time requests = option_map (λ r. r.time) (slice_get requests (length reque
 abbrev pub falls : Time → Option Time → Bool
 falls time last = option_map_or (is_before time) last false
 
--- A request is wrong where its time falls or there are too many; it waits where it comes at a checkpoint, since
--- these are not built yet.
-abbrev pub judge_request : ℕ → ℕ → Option Time → Time → Verdict
-judge_request k asked last time =
-    if falls time last || nat_le 1000000 asked then Wrong
-    else if (asked + 1) % k == 0 then Waits
-    else Goes
+-- a request is wrong where its time falls or there are too many
+abbrev pub judge_request : ℕ → Option Time → Time → Verdict
+judge_request asked last time = if falls time last || nat_le 1000000 asked then Wrong else Goes
 
--- what comes of a record behind these requests, with a checkpoint each k requests
-abbrev pub judge : ℕ → List Request → Event → Verdict
-judge k requests (records.Request client time bytes) = judge_request k (length requests) (last_time requests) time
-judge k requests records.End = Ends
-judge k requests event = if is_built event then Goes else Waits
+-- what comes of a record behind these requests
+abbrev pub judge : List Request → Event → Verdict
+judge requests (records.Request client time bytes) = judge_request (length requests) (last_time requests) time
+judge requests records.End = Ends
+judge requests event = if is_built event then Goes else Waits
 
 -- Why a log goes no further: it is whole; the header or record at this byte is wrong, or not built yet; or the bench
 -- has too few servers, or one that is too small.
@@ -66,16 +62,16 @@ behind_last place [] = whole
 behind_last place (b ∷ bytes) = bad place
 
 -- At most n records, the first at this byte, behind these requests; f replicas may fail, and there are so many servers.
-unfoldable pub records_from : ℕ → (f servers k : ℕ) → List Request → ℕ → List ℕ → Log
-records_from zero f servers k requests place bytes = stops (bad place)
-records_from (suc n) f servers k requests place bytes =
+unfoldable pub records_from : ℕ → (f servers : ℕ) → List Request → ℕ → List ℕ → Log
+records_from zero f servers requests place bytes = stops (bad place)
+records_from (suc n) f servers requests place bytes =
     elim (record_at f servers bytes) [
       | None ↦ stops (bad place)
-      | Some x ↦ elim (judge k requests x.0) [
+      | Some x ↦ elim (judge requests x.0) [
         | Wrong ↦ stops (bad place)
         | Waits ↦ stops (not_built place)
         | Goes ↦ goes_on x.0
-            (records_from n f servers k (requests ++ asked_by x.0) (place + (length bytes - length x.1)) x.1)
+            (records_from n f servers (requests ++ asked_by x.0) (place + (length bytes - length x.1)) x.1)
         | Ends ↦ goes_on x.0 (stops (behind_last (place + (length bytes - length x.1)) x.1))
       ]
     ]
@@ -101,5 +97,5 @@ unfoldable pub log_of : {X : Type 0} → (X → ServerLimits) → List X → Lis
 log_of most servers bytes =
     elim (header_at bytes) [
       | None ↦ stops (bad 0)
-      | Some h ↦ by_bench most h.0 servers (records_from 16777216 h.0.f (length servers) h.0.k [] 24 h.1)
+      | Some h ↦ by_bench most h.0 servers (records_from 16777216 h.0.f (length servers) [] 24 h.1)
     ]

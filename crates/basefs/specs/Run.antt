@@ -11,8 +11,9 @@ use Rattle.log_format.specs.Records.{header_at}
 use Rattle.cluster_model.specs.declared.Request.{Request}
 use Rattle.cluster_model.specs.Moments.{Moment}
 use Rattle.cluster_model.specs.Turns.{last}
-use Rattle.cluster_model.specs.Calm.{IsCalm, IsHarmless}
-use Rattle.cluster_model.specs.Run.{fresh, LooseRun, Always, HasEnough, IsOnce, replies, AreMet}
+use Rattle.cluster_model.specs.Calm.{IsHarmless}
+use Rattle.cluster_model.specs.Run.{fresh, LooseRun, Always, IsOnce, replies, AreMet}
+use Rattle.cluster_model.specs.Served.{IsServed}
 use Rattle.service_laws.specs.Served.{service}
 use Rattle.cluster.specs.Steps.{asked_by, ServersAreStruck}
 use Rattle.basefs.specs.declared.status.Status.{Status}
@@ -97,11 +98,6 @@ pub record IsTold (m : Moment) : Type 0 where
   pub decisions : replies m.lines ≡ m.state.decisions
   pub once : IsOnce (replies m.lines)
 
--- Each decision is the service's word at its place, each live replica's array is that of its place, and each place that
--- f + 1 live replicas have run is decided.
-abbrev pub IsServed : Limits → Moment → Type 0
-IsServed limits m = IsCalm (service limits) m.state × HasEnough (service limits) m
-
 -- The replicas were started, and the records of the log were stepped up to the one at which the status stops the run.
 pub record Ran {X : Type 0} (state : X → Server) (limits : Limits) (log : List ℕ → Log) (old new : Setting X)
     (ended : Status) : Type 0 where
@@ -117,7 +113,7 @@ pub record Ran {X : Type 0} (state : X → Server) (limits : Limits) (log : List
   pub cut : IsCutAtLast limits (length old.servers) new.downs events ms printed.part
   pub unread : ended ≡ status.WriteFault → (log ends.taken).events ≡ events
   -- at every moment, whatever servers fail
-  pub calm : Always (IsServed limits) ms
+  pub calm : Always (IsServed (service limits)) ms
   pub told : IsTold (end_of limits (length old.servers) ms)
   pub requests : (end_of limits (length old.servers) ms).state.requests ≡ requests_of events
   -- the server of each live replica holds exactly its array

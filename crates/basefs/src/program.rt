@@ -51,9 +51,11 @@ pub fn basefs<S: Source, O: Sink, N: Link, C: Clock>(
 
     // Either nothing was started and written, and the bench is as it was; or the replicas were started over the first
     // servers, and the records of the log were stepped up to the one that stops the run. Then, whatever servers fail,
-    // each reply among the lines is the service's at its place, and the only one there; each place that f + 1 live
-    // replicas have run has its reply; the server of each live replica holds exactly the array of the service at the
-    // replica's place; and each `down` line is that of a fault point, for which the count of its server rose.
+    // each reply among the lines is the service's at its place, and the only one there; each stable place that a line
+    // names has the root of the service's array there; each place that f + 1 live replicas have run has its reply, and
+    // each of a checkpoint that 2f + 1 have run is stable or lies below a stable one; the server of each live replica
+    // holds exactly the array of the service at the replica's place; and each `down` line is that of a fault point, for
+    // which the count of its server rose.
     ensures run { IsReplay words.now → Replayed ⟦<Srv as FileServer>⟧.state
         (setting (S.left input.old) (O.written out.old)
         bench.old.servers.items bench.old.tables.items bench.old.downs.items)

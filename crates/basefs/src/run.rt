@@ -3,6 +3,7 @@
 ghost use Rattle.std.specs.Prelude.{◌≡◌, ◌<◌, ◌≤◌, ◌+◌, ◌*◌, ◌^◌, ℕ, List, Option, vec_len};
 ghost use Rattle.nfs2_types.specs.Counts.{Rose};
 ghost use Rattle.conf_map.specs.Stands.{AreWithin};
+ghost use Rattle.service_laws.specs.Served.{IsSized};
 ghost use Rattle.cluster.specs.OverBench.{HaveRoom};
 ghost use Rattle.basefs.specs.Setting.{setting};
 ghost use Rattle.basefs.specs.Beginning.{Begun, RunsAll};
@@ -31,6 +32,7 @@ fn begin<O: Sink>(
     bench: &mut Bench,
 ) -> Result<Cluster, RunErr>
     requires within { AreWithin limits.now }
+    requires sizes { IsSized limits.now }
     requires replicas { limits.now.f ≤ 2 }
     requires interval { 0 < limits.now.k }
     requires enough { 3 * limits.now.f + 1 ≤ vec_len bench.old.servers }
@@ -58,6 +60,7 @@ pub fn run_log<S: Source, O: Sink>(
 ) -> Status
     requires few { vec_len bench.old.servers < 2 ^ 32 }
     requires within { AreWithin limits.now }
+    requires sizes { IsSized limits.now }
     requires replicas { limits.now.f ≤ 2 }
     requires interval { 0 < limits.now.k }
     requires enough { 3 * limits.now.f + 1 ≤ vec_len bench.old.servers }

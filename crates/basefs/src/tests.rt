@@ -1,6 +1,8 @@
 //! Runs of the program over memory. The numbers of the calls are those of RFC 5531 and RFC 1094.
 
 mod calls;
+mod checkpoints;
+mod faults;
 mod mount;
 mod names;
 mod replicas;
@@ -55,6 +57,8 @@ fn look_up(xid: u32) -> [u32; 25] {
 const RUN: u32 = 2;
 
 const RUN_ALL: u32 = 3;
+
+const REBOOT: u32 = 4;
 
 const END: u32 = 14;
 
@@ -159,7 +163,7 @@ const DIRECTORIES: &str = "\
     reply 3 00000003000000010000000000000000000000000000000000000011\n";
 
 #[test]
-fn a_directory_is_made_and_found_and_the_fourth_request_waits(rt: HostRuntime) -> Result<(), Fail> {
+fn a_directory_is_made_and_found(rt: HostRuntime) -> Result<(), Fail> {
     let log = log_of(
         rt.alloc(),
         &[
@@ -170,7 +174,7 @@ fn a_directory_is_made_and_found_and_the_fourth_request_waits(rt: HostRuntime) -
             &[RUN_ALL],
             &make_dir(3),
             &[RUN_ALL],
-            &null_request(4),
+            &[REBOOT, 0],
         ],
     )?;
     let (status, text) = run(rt.alloc(), log, WHOLE)?;

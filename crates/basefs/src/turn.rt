@@ -52,29 +52,23 @@ fn falls(time: Time, last: Option<Time>) -> bool
 }
 
 /// What comes of a request behind so many others.
-fn judge_request(k: u32, asked: usize, last: Option<Time>, time: Time) -> Verdict
-    requires interval { 0 < k }
-    requires few { asked < 2 ^ 32 }
-    ensures { result ≡ judge_request_of k asked last time }
+fn judge_request(asked: usize, last: Option<Time>, time: Time) -> Verdict
+    ensures { result ≡ judge_request_of asked last time }
 {
     if falls(time, last) || asked >= MOST_REQUESTS {
         Verdict::Wrong
-    } else if (asked as u32 + 1) % k == 0 {
-        Verdict::Waits
     } else {
         Verdict::Goes
     }
 }
 
-/// What comes of a record behind the requests so far, with a checkpoint each `k` requests.
-fn judge(k: u32, cluster: &Cluster, event: &Event) -> Verdict
-    requires interval { k ≡ (kept cluster.now).limits.k }
-    ensures verdict { result ≡ judge_of k (kept cluster.now).requests event.now }
-    ensures few { length (kept cluster.now).requests < k }
+/// What comes of a record behind the requests so far.
+fn judge(cluster: &Cluster, event: &Event) -> Verdict
+    ensures { result ≡ judge_of (kept cluster.now).requests event.now }
 {
     let asked = cluster.asked();
     match event {
-        Event::Request { time, .. } => judge_request(k, asked, cluster.last_time(), *time),
+        Event::Request { time, .. } => judge_request(asked, cluster.last_time(), *time),
         Event::End => Verdict::Ends,
         _ if is_built(event) => Verdict::Goes,
         _ => Verdict::Waits,
@@ -210,7 +204,7 @@ pub fn take_turn<S: Source, O: Sink>(
         Ok(event) => event,
         Err(error) => return Turn::Over(read_status(error, place)),
     };
-    match judge(limits.k, cluster, &event) {
+    match judge(cluster, &event) {
         Verdict::Wrong => Turn::Over(Status::BadLog { at: place }),
         Verdict::Waits => Turn::Over(Status::NotBuilt { at: place }),
         Verdict::Goes => match step_and_write(alloc, cluster, event, out, bench) {

@@ -1,5 +1,5 @@
 -- The clauses of a beginning, over plain values: one replica, and those before it.
-use Rattle.std.proofs.Common.{◌≡◌, ℕ, suc, ◌+◌, ◌<◌, Bool, true, false, List, [], ◌∷◌, ◌++◌, map, length, slice_get, Option, None, Result, Err, inl, inr, refl, sym, ◌∙◌, ap, subst, arith}
+use Rattle.std.proofs.Common.{◌≡◌, ℕ, suc, ◌+◌, ◌<◌, ◌≤◌, Bool, true, false, List, [], ◌∷◌, ◌++◌, map, length, slice_get, Option, Some, None, Result, Err, inl, inr, refl, sym, ◌∙◌, ap, subst, arith}
 use Rattle.std.specs.Prelude.{slice_index_or}
 use Rattle.std.specs.List.{flat_map}
 use Rattle.std.proofs.lemmas.List.{append-nil, length-append, get_or_append_left}
@@ -17,6 +17,8 @@ use Rattle.cluster_model.specs.Moments.{Faults}
 use Rattle.cluster_model.specs.Turns.{Slot}
 use Rattle.cluster_model.specs.Run.{failed_of}
 use Rattle.replica.specs.declared.Replica.{Replica as Seat}
+use Rattle.replica.specs.Replicas.{IsOver}
+use Rattle.replica.proofs.Overs.{over_begun}
 use Rattle.cluster.specs.Positions.{ChangesAt, WatchedAt, AreLater}
 use Rattle.cluster.specs.Turned.{AreStruckBy, FailAs, points, points_of, round_slots}
 use Rattle.cluster.specs.Begun.{SeatBegins, begin_line, begin_lines, BeginsAt, Begun}
@@ -24,6 +26,7 @@ use Rattle.cluster.proofs.ListFacts.{map-append, flat_map-append}
 use Rattle.cluster.proofs.Faults.{round_size}
 use Rattle.cluster.proofs.Goings.{fail_first, fail_then, points-append, round_more}
 use Rattle.cluster.proofs.Struck.{struck_none, struck_down, struck_then, later_none}
+use Rattle.cluster.proofs.Seated.{over_pushed}
 use Rattle.cluster.proofs.Beginning.{lines_more}
 
 -- what a line of a beginning tells is what its point tells
@@ -33,6 +36,12 @@ tells_one false r = refl
 tells_one true r = refl
 
 module _ {X : Type 0} (state : X → Server) (limits : Limits) where
+  -- a replica that begins is over as many entries as the array
+  over_begins : 1 ≤ limits.n → (b : Bool) (k : Seat) (s : Option X) (t : Option ConfTable) →
+      SeatBegins state limits b (Some k) s t → IsOver limits.n k
+  over_begins some true k s t h = absurd h
+  over_begins some false k s t h = subst (IsOver limits.n) (sym h.0) (over_begun limits.n some)
+
   pub begins_down : (r : ℕ) (servers servers' : List X) (tables tables' : List ConfTable)
       (seats seats' : List (Option Seat)) (met met' : List FaultPoint) (ls ls' : List Line)
       (result : Result Seat WrapErr) (e : WrapErr) → e ≡ errors.Down → r < length servers →
@@ -62,6 +71,7 @@ module _ {X : Type 0} (state : X → Server) (limits : Limits) where
     faults_are = [];
     long = refl;
     many = refl;
+    over = λ r k e. absurd (cc);
     met_are = refl;
     tells = refl;
     struck = struck_none state [] servers refl;
@@ -79,10 +89,10 @@ module _ {X : Type 0} (state : X → Server) (limits : Limits) where
   pub later_first : (n : ℕ) (xs ys : List X) → ys ≡ xs → AreLater state n xs ys
   later_first n xs ys same = rw same (later_none state n xs)
 
-  pub begun_more : (r : ℕ) (xs ys zs : List X) (ta tb : List ConfTable) (sa sb : List (Option Seat))
+  pub begun_more : 1 ≤ limits.n → (r : ℕ) (xs ys zs : List X) (ta tb : List ConfTable) (sa sb : List (Option Seat))
       (ma mb : List FaultPoint) (la lb : List Line) → Begun state limits r xs ys ta sa ma la →
       BeginsAt state limits r ys zs ta tb sa sb ma mb la lb → Begun state limits (r + 1) xs zs tb sb mb lb
-  begun_more r xs ys zs ta tb sa sb ma mb la lb h b =
+  begun_more some r xs ys zs ta tb sa sb ma mb la lb h b =
       let one : Slot = record { round = 0; replica = r } in
       let fs = h.faults_are ++ b.fault ∷ [] in
       let long_is : length h.faults_are ≡ length (round_slots 0 r) = h.long ∙ sym (round_size r) in
@@ -105,6 +115,9 @@ module _ {X : Type 0} (state : X → Server) (limits : Limits) where
         faults_are = fs;
         long = length-append h.faults_are (b.fault ∷ []) ∙ (let z = h.long in omega arith);
         many = ap length b.seats_are ∙ length-append sa (b.seat ∷ []) ∙ (let z = h.many in omega arith);
+        over = λ i k e. over_pushed limits.n sa sb b.seat b.seats_are h.over
+            (λ j is. over_begins some b.fault j (slice_get zs r) (slice_get tb r)
+            (subst (λ o. SeatBegins state limits b.fault o (slice_get zs r) (slice_get tb r)) is b.begins)) i k e;
         met_are = b.met_are ∙ ap (λ ps. ps ++ points 0 one b.fault) h.met_are ∙ sym points_are;
         tells = ap (flat_map failed_of) b.lines_are ∙ flat_map-append failed_of la (begin_line b.fault r)
             ∙ ap (λ rs. rs ++ flat_map failed_of (begin_line b.fault r)) h.tells

@@ -1,10 +1,11 @@
 -- The start: what the model makes of it, and that cluster and bench stand for that.
 use Rattle.std.proofs.Common.{◌≡◌, ◌≢◌, ℕ, zero, suc, ◌+◌, ◌*◌, ◌<◌, ◌≤◌, Bool, true, false, cond, List, [], ◌∷◌, ◌++◌, length, slice_get, Option, Some, None, inl, inr, refl, sym, ◌∙◌, ap, subst, arith}
-use Rattle.std.specs.Prelude.{slice_index_or, replicate}
+use Rattle.std.specs.Prelude.{slice_index_or, option_map, replicate}
 use Rattle.std.specs.List.{All}
 use Rattle.std.proofs.lemmas.List.{append-nil, length-set, get_or-set_same, get_or-set_other, get_or-replicate, length-replicate}
 use Rattle.std.proofs.lemmas.Option.{slice_get_within}
 use Rattle.nfs2_types.specs.declared.Limits.{Limits}
+use Rattle.nfs2_types.specs.declared.Word.TheVariants as words
 use Rattle.abs_model.specs.declared.Entry.{Entry}
 use Rattle.abs_model.specs.Array.{empty_array}
 use Rattle.server_trait.specs.Tree.{Server}
@@ -13,24 +14,27 @@ use Rattle.server_trait.specs.declared.FaultPoint.{FaultPoint}
 use Rattle.server_trait.proofs.TreeLaws.{one_or_not}
 use Rattle.log_format.specs.declared.Line.{Line}
 use Rattle.cluster_model.specs.Service.{Service}
-use Rattle.cluster_model.specs.Tree.{below}
+use Rattle.cluster_model.specs.Tree.{below, root}
 use Rattle.cluster_model.specs.State.{Condition, Live, Down, Replica, lookup, has}
 use Rattle.cluster_model.specs.Moments.{Moment, Faults, gone, replica, put, fails}
 use Rattle.cluster_model.specs.Turns.{begins, moments, last}
 use Rattle.cluster_model.specs.Run.{Always, faults_in, fresh, start, start_fault}
 use Rattle.cluster_model.proofs.Lines.{Chain, same_grows, chain_moments, start_fault_grows}
 use Rattle.cluster_model.proofs.Voted.{Always-moments}
-use Rattle.service_laws.specs.Served.{service}
+use Rattle.service_laws.specs.Served.{IsSized, service}
+use Rattle.partition_tree.specs.Digests.{IsRoot}
 use Rattle.replica.specs.declared.Replica.{Replica as Seat}
+use Rattle.replica.specs.Replicas.{digests_of}
 use Rattle.reply_vote.specs.Ballots.{word_at}
 use Rattle.cluster.specs.Positions.{StandsAt}
-use Rattle.cluster.specs.OverBench.{Kept, IsSeat, IsState, HaveArrays}
+use Rattle.cluster.specs.OverBench.{Kept, IsKeptBy, IsSeat, IsState, HaveArrays}
 use Rattle.cluster.specs.Steps.{Starts}
 use Rattle.cluster.specs.Turned.{FailAs, round_slots}
 use Rattle.cluster.specs.Begun.{SeatBegins, begin_line, begin_lines, Begun}
 use Rattle.cluster.proofs.ListFacts.{read_is, flat_map-append}
 use Rattle.cluster.proofs.Faults.{fails_as, round_differ, round_within, round_size, points_low}
 use Rattle.cluster.proofs.StruckMoments.{struck_moments}
+use Rattle.cluster.proofs.Checkpoints.{keeps_begun, empty_root_is}
 
 -- THE MODEL'S START
 
@@ -50,9 +54,11 @@ module _ (S : Service) (servers : ℕ) (faults : Faults) where
     pub requests : m.state.requests ≡ []
     pub bench : m.state.bench ≡ below servers
     pub stable : m.state.stable ≡ 0
+    pub root : m.state.root ≡ root S S.empty
     pub decisions : m.state.decisions ≡ []
     pub size : length m.state.replicas ≡ 3 * S.f + 1
     pub words : (r : ℕ) → r < 3 * S.f + 1 → (replica m.state r).words ≡ []
+    pub roots : (r : ℕ) → r < 3 * S.f + 1 → (replica m.state r).roots ≡ []
     pub before : (r : ℕ) → r < j → r < 3 * S.f + 1 →
         (replica m.state r).condition ≡ cond (faults 0 r) Down (Live (begins S 0 S.empty))
     pub behind : (r : ℕ) → j ≤ r → r < 3 * S.f + 1 → (replica m.state r).condition ≡ Live (begins S 0 S.empty)
@@ -67,9 +73,11 @@ module _ (S : Service) (servers : ℕ) (faults : Faults) where
         requests = refl;
         bench = refl;
         stable = refl;
+        root = refl;
         decisions = refl;
         size = length-replicate n x;
         words = λ r l. ap (λ (y : Replica). y.words) (at r l);
+        roots = λ r l. ap (λ (y : Replica). y.roots) (at r l);
         before = λ r low l. absurd (omega arith);
         behind = λ r high l. ap (λ (y : Replica). y.condition) (at r l);
         said = refl;
@@ -93,11 +101,16 @@ module _ (S : Service) (servers : ℕ) (faults : Faults) where
             requests = h.requests;
             bench = h.bench;
             stable = h.stable;
+            root = h.root;
             decisions = h.decisions;
             size = length-set m.state.replicas j x ∙ h.size;
             words = λ r l. elim (one_or_not r j) as (λ _. (replica s r).words ≡ []) [
               | inl is ↦ ap (λ k. (replica s k).words) is ∙ ap (λ (y : Replica). y.words) same ∙ h.words j within
               | inr ne ↦ ap (λ (y : Replica). y.words) (other r ne) ∙ h.words r l
+            ];
+            roots = λ r l. elim (one_or_not r j) as (λ _. (replica s r).roots ≡ []) [
+              | inl is ↦ ap (λ k. (replica s k).roots) is ∙ ap (λ (y : Replica). y.roots) same ∙ h.roots j within
+              | inr ne ↦ ap (λ (y : Replica). y.roots) (other r ne) ∙ h.roots r l
             ];
             before = λ r low l. elim (one_or_not r j) as
                 (λ _. (replica s r).condition ≡ cond (faults 0 r) Down (Live (begins S 0 S.empty))) [
@@ -114,9 +127,11 @@ module _ (S : Service) (servers : ℕ) (faults : Faults) where
         requests = h.requests;
         bench = h.bench;
         stable = h.stable;
+        root = h.root;
         decisions = h.decisions;
         size = h.size;
         words = h.words;
+        roots = h.roots;
         before = λ r low l. elim (one_or_not r j) as
             (λ _. (replica m.state r).condition ≡ cond (faults 0 r) Down (Live (begins S 0 S.empty))) [
               | inl is ↦ h.behind r (omega (arith, is)) l
@@ -175,9 +190,13 @@ pub record IsNew (limits : Limits) (c : Kept) : Type 0 where
   pub voters : length c.ballots ≡ 3 * limits.f + 1
   pub no_words : (k p : ℕ) → word_at c.ballots k p ≡ None
   pub decisions : (p : ℕ) → c.decisions p ≡ None
+  pub root_voters : length c.roots ≡ 3 * limits.f + 1
+  pub no_roots : (k p : ℕ) → word_at c.roots k p ≡ None
+  pub stable : c.stable ≡ 0
+  pub root : IsRoot (digests_of (empty_array limits.n)) c.root
   pub events : c.events ≡ 0
 
-module _ {X : Type 0} (state : X → Server) (limits : Limits) where
+module _ {X : Type 0} (state : X → Server) (limits : Limits) (sized : IsSized limits) where
   begins_seat : (b : Bool) (seat : Option Seat) (s : Option X) (t : Option ConfTable) (c : Condition) →
       SeatBegins state limits b seat s t →
       c ≡ cond b Down (Live (begins (service limits) 0 (service limits).empty)) → IsSeat state limits seat s t c
@@ -188,7 +207,8 @@ module _ {X : Type 0} (state : X → Server) (limits : Limits) where
     live = begins (service limits) 0 (service limits).empty;
     is_live = e;
     stands = subst (StandsAt state limits s t) (sym (service_begins limits).1) h.1;
-    place = sym h.0;
+    keeps = subst (λ (j : Seat). IsKeptBy j (begins (service limits) 0 (service limits).empty)) (sym h.0)
+        (keeps_begun limits);
     lies = refl;
     harmed = refl;
   }
@@ -222,10 +242,12 @@ module _ {X : Type 0} (state : X → Server) (limits : Limits) where
     begun_state = record {
       requests = started.requests ∙ sym new.requests;
       order = started.bench ∙ ap below (sym h.size);
-      stable = started.stable;
+      stable = started.stable ∙ sym new.stable;
+      root = started.root ∙ sym (empty_root_is limits sized c.root new.root);
       decisions = λ p. ap (lookup p) started.decisions ∙ sym (new.decisions p);
       size = started.size ∙ sym h.many;
       voters = new.voters ∙ sym h.many;
+      root_voters = new.root_voters ∙ sym h.many;
       conditions = λ r l. (
           let low : r < 3 * limits.f + 1 = (let e = h.many in omega arith) in
           subst (λ l. IsSeat state l (slice_index_or c.seats r None) (slice_get servers' r) (slice_get tables' r)
@@ -236,6 +258,9 @@ module _ {X : Type 0} (state : X → Server) (limits : Limits) where
           let low : r < 3 * limits.f + 1 = (let e = h.many in omega arith) in
           ap (lookup p) (started.words r low)
           ∙ sym (ap (λ o. cond (has o) None (word_at c.ballots r p)) (new.decisions p) ∙ new.no_words r p));
+      roots = λ r p l. (
+          let low : r < 3 * limits.f + 1 = (let e = h.many in omega arith) in
+          ap (λ ds. option_map words.Reply (lookup p ds)) (started.roots r low) ∙ sym (new.no_roots r p));
     }
 
     pub begun_arrays : HaveArrays state c servers' tables'
@@ -269,12 +294,18 @@ module _ {X : Type 0} (state : X → Server) (limits : Limits) where
 -- a cluster that has just begun
 pub new_cluster : (limits : Limits) (c : Kept) → c.limits ≡ limits → c.requests ≡ [] →
     length c.ballots ≡ 3 * limits.f + 1 → ((k p : ℕ) → word_at c.ballots k p ≡ None) →
-    ((p : ℕ) → c.decisions p ≡ None) → c.events ≡ 0 → IsNew limits c
-new_cluster limits c limits_are requests voters no_words decisions events = record {
+    ((p : ℕ) → c.decisions p ≡ None) → length c.roots ≡ 3 * limits.f + 1 →
+    ((k p : ℕ) → word_at c.roots k p ≡ None) → c.stable ≡ 0 → IsRoot (digests_of (empty_array limits.n)) c.root →
+    c.events ≡ 0 → IsNew limits c
+new_cluster limits c limits_are requests voters no_words decisions root_voters no_roots stable root events = record {
   limits_are = limits_are;
   requests = requests;
   voters = voters;
   no_words = no_words;
   decisions = decisions;
+  root_voters = root_voters;
+  no_roots = no_roots;
+  stable = stable;
+  root = root;
   events = events;
 }

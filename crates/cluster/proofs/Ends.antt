@@ -71,7 +71,7 @@ module _ {X : Type 0} (state : X → Server) where
       by : (o : Option Seat) → IsSeat state c.limits o (slice_get servers k) (slice_get tables k) x.condition →
           at_line j x.condition ≡ end_line j o
       by None h = ap (at_line j) h
-      by (Some n) h = ap (at_line j) h.is_live ∙ ap (lines.At j) h.place
+      by (Some n) h = ap (at_line j) h.is_live ∙ ap (lines.At j) h.keeps.place
 
   no_failures : (r : ℕ) (seats : List (Option Seat)) → flat_map failed_of (end_lines r seats) ≡ []
   no_failures r [] = refl
@@ -114,11 +114,14 @@ module _ {X : Type 0} (state : X → Server) where
     requests = ap (λ qs. qs ++ q ∷ []) s.requests;
     order = s.order;
     stable = s.stable;
+    root = s.root;
     decisions = s.decisions;
     size = s.size;
     voters = s.voters;
+    root_voters = s.root_voters;
     conditions = s.conditions;
     words = s.words;
+    roots = s.roots;
   }
 
   pub went_ask : (c new : Kept) (client : ℕ) (time : Time) (bytes : List ℕ) (servers : List X) (tables : List ConfTable)

@@ -1,8 +1,12 @@
 pub mod ListFacts
 pub mod Positions
 pub mod States
+pub mod RootStates
+pub mod Checkpoints
+pub mod Casts
 pub mod Turns
 pub mod Struck
+pub mod Seated
 pub mod TurnClauses
 pub mod Goings
 pub mod CastFacts

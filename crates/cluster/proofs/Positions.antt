@@ -13,10 +13,10 @@ use Rattle.conf_map.specs.Stands.{StandsValid}
 use Rattle.conf_map.specs.Notice.{Watched}
 use Rattle.conf_map.proofs.InStep.{slice_get-set_other, slice_get-set_same}
 use Rattle.cluster_model.specs.declared.Request.{Request}
-use Rattle.replica.specs.Answered.{Answered}
+use Rattle.replica.specs.Passed.{Passed}
 use Rattle.replica.specs.declared.running.Cast.{Cast}
 use Rattle.replica.specs.declared.running.Replica.{Replica}
-use Rattle.cluster.specs.Positions.{StandsAt, ChangesAt, WatchedAt, AnsweredAt}
+use Rattle.cluster.specs.Positions.{StandsAt, ChangesAt, WatchedAt, PassedAt}
 
 pub changes_set : {X : Type 0} (xs : List X) (r : ℕ) (v : X) → ChangesAt r xs (slice_set xs r v)
 changes_set xs r v = record { size = length-set xs r v; others = λ k ne. slice_get-set_other xs r k v ne }
@@ -46,11 +46,11 @@ module _ {X : Type 0} (state : X → Server) (xs : List X) (tables : List ConfTa
     watched = h;
   }
 
-  pub answered_at : (result : Result Cast WrapErr) (q : Request) →
-      IfOk result (λ cast. Answered limits q.time q.bytes (state x).tree (state v).tree t w cast.word) →
-      IfOk result (λ cast. AnsweredAt state limits q (slice_get xs r) (slice_get tables r)
-      (slice_get (slice_set xs r v) r) (slice_get (slice_set tables r w) r) cast.word)
-  answered_at (Ok cast) q h = record {
+  pub passed_at : (result : Result Cast WrapErr) (q : Request) (k k' : Replica) →
+      IfOk result (λ cast. Passed limits q.time q.bytes (state x).tree (state v).tree t w k k' cast) →
+      IfOk result (λ cast. PassedAt state limits q (slice_get xs r) (slice_get tables r)
+      (slice_get (slice_set xs r v) r) (slice_get (slice_set tables r w) r) k k' cast)
+  passed_at (Ok cast) q k k' h = record {
     step = λ A s.
         let same_s : s.server ≡ x = some_same s.is_server here_x in
         let same_t : s.table ≡ t = some_same s.is_table here_t in
@@ -65,9 +65,10 @@ module _ {X : Type 0} (state : X → Server) (xs : List X) (tables : List ConfTa
             stands = out.0;
           },
           out.1,
+          out.2,
         );
   }
-  answered_at (Err e) q h = tt
+  passed_at (Err e) q k k' h = tt
 
   pub stands_here : StandsValid limits (state x).tree t A₀
   stands_here = subst (λ y. StandsValid limits (state y).tree t A₀) (some_same h₀.is_server here_x)

@@ -1,11 +1,12 @@
 -- Small changes of a state, and what cluster and bench then stand for.
 use Rattle.std.proofs.Common.{◌≡◌, ◌≢◌, ℕ, zero, suc, ◌<◌, true, false, cond, List, [], ◌∷◌, ◌++◌, map, length, set, slice_get, Option, Some, None, inl, inr, refl, sym, ◌∙◌, ap, subst, arith}
-use Rattle.std.specs.Prelude.{slice_index_or, ◌==◌}
+use Rattle.std.specs.Prelude.{slice_index_or, option_map, ◌==◌}
 use Rattle.std.specs.Option.{option_and_then}
 use Rattle.std.proofs.lemmas.Option.{slice_get_within}
 use Rattle.std.proofs.lemmas.Bool.Decides.{nat_tests}
 use Rattle.std.proofs.lemmas.List.{length-set, get_or-set_same, get_or-set_other, length-map}
 use Rattle.nfs2_types.specs.declared.Word.{Word}
+use Rattle.nfs2_types.specs.declared.Word.TheVariants as words
 use Rattle.server_trait.specs.Tree.{Server}
 use Rattle.server_trait.specs.declared.ConfTable.{ConfTable}
 use Rattle.server_trait.proofs.TreeLaws.{one_or_not}
@@ -18,6 +19,10 @@ use Rattle.cluster.specs.Positions.{ChangesAt}
 use Rattle.cluster.specs.OverBench.{Kept, IsSeat, IsState}
 use Rattle.cluster.specs.Casting.{Decides}
 use Rattle.cluster.proofs.ListFacts.{read_same, read_is, count_same, lookup-append_none, lookup-append_other, without_same, without_other}
+
+-- the root word of a replica for a place, as the reply of its bytes
+abbrev pub root_of : ℕ → Replica → Option Word
+root_of p x = option_map words.Reply (lookup p x.roots)
 
 forgets_at : (p k : ℕ) (xs : List Replica) →
     slice_index_or (map (forgets_words p) xs) k gone ≡ forgets_words p (slice_index_or xs k gone)
@@ -44,9 +49,11 @@ module _ {X : Type 0} (state : X → Server) where
         requests = h.requests;
         order = h.order ∙ ap below (sym sv.size);
         stable = h.stable;
+        root = h.root;
         decisions = h.decisions;
         size = size ∙ h.size ∙ sym cs.size;
         voters = h.voters ∙ sym cs.size;
+        root_voters = h.root_voters ∙ sym cs.size;
         conditions = λ k lk. elim (one_or_not k r) as (λ _. IsSeat state c.limits (slice_index_or seats k None)
             (slice_get servers' k) (slice_get tables' k) (replica (put r x s) k).condition) [
               | inl e ↦ subst (λ k. IsSeat state c.limits (slice_index_or seats k None) (slice_get servers' k)
@@ -63,6 +70,11 @@ module _ {X : Type 0} (state : X → Server) where
               | inr ne ↦ ap (λ (y : Replica). lookup p y.words) (other k ne)
                   ∙ h.words k p (let e = cs.size in omega arith)
             ];
+        roots = λ k p lk. elim (one_or_not k r) as (λ _. root_of p (replica (put r x s) k) ≡ word_at c.roots k p) [
+          | inl e ↦ subst (λ k. root_of p (replica (put r x s) k) ≡ word_at c.roots k p) (sym e)
+              (ap (root_of p) same ∙ h.roots r p within)
+          | inr ne ↦ ap (root_of p) (other k ne) ∙ h.roots k p (let e = cs.size in omega arith)
+        ];
       }
 
   -- a word that is cast for an undecided place stands
@@ -81,9 +93,11 @@ module _ {X : Type 0} (state : X → Server) where
         requests = h.requests;
         order = h.order;
         stable = h.stable;
+        root = h.root;
         decisions = h.decisions;
         size = size ∙ h.size;
         voters = cast.size ∙ h.voters;
+        root_voters = h.root_voters;
         conditions = λ k lk. elim (one_or_not k r) as (λ _. IsSeat state c.limits (slice_index_or c.seats k None)
             (slice_get servers k) (slice_get tables k) (replica (put r x s) k).condition) [
               | inl e ↦ subst (λ k. IsSeat state c.limits (slice_index_or c.seats k None) (slice_get servers k)
@@ -99,6 +113,11 @@ module _ {X : Type 0} (state : X → Server) where
               | inr ne ↦ ap (λ (y : Replica). lookup q y.words) (other k ne) ∙ h.words k q lk
                   ∙ ap (cond (has (c.decisions q)) None) (sym (cast.voters k q ne))
             ];
+        roots = λ k q lk. elim (one_or_not k r) as (λ _. root_of q (replica (put r x s) k) ≡ word_at c.roots k q) [
+          | inl e ↦ subst (λ k. root_of q (replica (put r x s) k) ≡ word_at c.roots k q) (sym e)
+              (ap (root_of q) same ∙ h.roots r q within)
+          | inr ne ↦ ap (root_of q) (other k ne) ∙ h.roots k q lk
+        ];
       }
     where
       mine : (q : ℕ) → cond (p == q) (Some w) (lookup q (replica s r).words)
@@ -128,6 +147,7 @@ module _ {X : Type 0} (state : X → Server) where
         requests = h.requests;
         order = h.order;
         stable = h.stable;
+        root = h.root;
         decisions = λ q. elim (one_or_not q p) as (λ _. lookup q (s.decisions ++ (p, w) ∷ []) ≡ decisions' q) [
           | inl e ↦ subst (λ q. lookup q (s.decisions ++ (p, w) ∷ []) ≡ decisions' q) (sym e)
               (lookup-append_none p w s.decisions (h.decisions p ∙ none) ∙ sym d.here)
@@ -135,6 +155,7 @@ module _ {X : Type 0} (state : X → Server) where
         ];
         size = length-map s.replicas (forgets_words p) ∙ h.size;
         voters = f.size ∙ h.voters;
+        root_voters = h.root_voters;
         conditions = λ k lk. rw (at k) (h.conditions k lk);
         words = λ k q lk. ap (λ (y : Replica). lookup q y.words) (at k) ∙ (elim (one_or_not q p) as
             (λ _. lookup q (without p (replica s k).words) ≡ cond (has (decisions' q)) None (word_at ballots' k q)) [
@@ -145,6 +166,7 @@ module _ {X : Type 0} (state : X → Server) where
                   ∙ ap (λ o. cond (has o) None (word_at c.ballots k q)) (sym (d.others q ne))
                   ∙ ap (cond (has (decisions' q)) None) (sym (f.places k q ne))
             ]);
+        roots = λ k q lk. ap (root_of q) (at k) ∙ h.roots k q lk;
       }
 
   -- the model's votes for an undecided place are those that are kept

@@ -255,11 +255,14 @@ module _ {X : Type 0} (state : X → Server) where
     requests = h.requests;
     order = h.order;
     stable = h.stable;
+    root = h.root;
     decisions = h.decisions;
     size = h.size;
     voters = h.voters;
+    root_voters = h.root_voters;
     conditions = h.conditions;
     words = h.words;
+    roots = h.roots;
   }
 
   pub steps_went : (a b c : Kept) (sa sb : List X) (ta tb : List ConfTable) (met downs downs' : List FaultPoint)

@@ -1,6 +1,6 @@
 -- The clauses of a turn, over plain values.
 use Rattle.std.proofs.Common.{◌≡◌, ◌≢◌, ℕ, suc, ◌+◌, ◌<◌, true, false, List, [], ◌∷◌, ◌++◌, length, slice_get, get_or, Option, Some, None, Result, Ok, Err, inl, inr, refl, sym, ◌∙◌, ap, subst, arith}
-use Rattle.std.specs.Prelude.{slice_set}
+use Rattle.std.specs.Prelude.{slice_set, nat_lt}
 use Rattle.std.specs.List.{flat_map}
 use Rattle.std.proofs.lemmas.List.{append-nil, length-set}
 use Rattle.std.proofs.lemmas.Option.{slice_get_read, slice_get_within, slice_get-get_or}
@@ -23,14 +23,17 @@ use Rattle.cluster_model.specs.declared.Request.{Request}
 use Rattle.cluster_model.specs.Moments.{Moment, decision_line}
 use Rattle.cluster_model.specs.Turns.{Slot, Not, turn, slot_turn}
 use Rattle.cluster_model.specs.Run.{failed_of}
-use Rattle.service_laws.specs.Served.{service}
+use Rattle.service_laws.specs.Served.{IsSized, service}
 use Rattle.replica.specs.declared.Replica.{Replica as Seat}
 use Rattle.replica.specs.declared.Cast.{Cast}
-use Rattle.cluster.specs.Positions.{StandsAt, AnsweredAt, ChangesAt, WatchedAt, AreLater}
+use Rattle.replica.specs.Replicas.{IsOver}
+use Rattle.cluster.specs.Positions.{StandsAt, PassedAt, ChangesAt, WatchedAt, AreLater}
 use Rattle.cluster.specs.OverBench.{Kept, IsState, HaveArrays, HaveRoom}
-use Rattle.cluster.specs.Casting.{Counted, CastCases, Late, Stood, Decided}
-use Rattle.cluster.specs.Turned.{Turned, TurnStays, IsIdle}
-use Rattle.cluster.proofs.Turns.{service_is, cast_lines, lines_are, turn_runs, turn_fails, idle_same}
+use Rattle.cluster.specs.Casting.{CastCases, Late, Stood, Decided, RootCases, Low, Waits, IsStable, RootedIf, Voted}
+use Rattle.cluster.specs.Turned.{Turned, TurnStays}
+use Rattle.cluster.proofs.ListFacts.{flat_map-append}
+use Rattle.cluster.proofs.Casts.{service_is, cast_lines, root_lines, rooted_lines, vote_lines, vote_lines_are}
+use Rattle.cluster.proofs.Turns.{turn_runs, turn_fails, idle_same}
 use Rattle.cluster.proofs.Struck.{struck_none, struck_ok, struck_down, room_later}
 
 pub at_index : {X : Type 0} (xs : List X) (r : ℕ) (x y : X) → r < length xs → x ≡ get_or xs r x → x ≡ y →
@@ -47,6 +50,26 @@ cast_quiet : {r p : ℕ} {w : Word} {old new : Kept} {ls ls' : List Line} (k : C
 cast_quiet (Late v e vs ds l) = refl
 cast_quiet (Stood e cast ds l few) = refl
 cast_quiet {p = p} {w = w} (Decided e mid cast drop ds l enough) = ap (λ xs. xs ++ []) (decision_quiet p w)
+
+root_quiet : {r p : ℕ} {d : List ℕ} {old new : Kept} {ls ls' : List Line} (k : RootCases r p d old new ls ls') →
+    flat_map failed_of (root_lines k) ≡ []
+root_quiet (Low low roots stable root seats l) = refl
+root_quiet (Waits high cast stable root seats l few) = refl
+root_quiet (IsStable high mid cast drop stable root seen l enough) = refl
+
+rooted_quiet : (r p : ℕ) (o : Option (List ℕ)) (old new : Kept) (ls ls' : List Line)
+    (h : RootedIf r p o old new ls ls') → flat_map failed_of (rooted_lines r p o old new ls ls' h) ≡ []
+rooted_quiet r p None old new ls ls' h = refl
+rooted_quiet r p (Some d) old new ls ls' h = root_quiet h.cases
+
+-- nor do the words of a place
+vote_quiet : (r : ℕ) (cast : Cast) (old new : Kept) (ls ls' : List Line) (v : Voted r cast old new ls ls') →
+    flat_map failed_of (vote_lines r cast old new ls ls' v) ≡ []
+vote_quiet r cast old new ls ls' v =
+    let more = rooted_lines r cast.place cast.root v.mid new v.between ls' v.rooted in
+    flat_map-append failed_of (cast_lines v.replied.cases) more
+    ∙ ap (λ xs. xs ++ flat_map failed_of more) (cast_quiet v.replied.cases)
+    ∙ rooted_quiet r cast.place cast.root v.mid new v.between ls' v.rooted
 
 -- the seats but one are as they were
 pub seats_set : (seats : List (Option Seat)) (r k : ℕ) (seat : Option Seat) (o : Option Seat) → k ≢ r →
@@ -73,40 +96,35 @@ module _ {X : Type 0} (state : X → Server) where
   }
 
   pub turned_runs : (c mid new : Kept) (servers servers' : List X) (tables tables' : List ConfTable) (r : ℕ)
-      (k k' : Seat) (q : Request) (w : Word) (met : List FaultPoint) (ls ls' : List Line) (t : Slot)
-      (p : ℕ) (result : Result Cast WrapErr) (cast : Cast) → result ≡ Ok cast →
-      length c.requests < c.limits.k → r < length c.seats → slice_get c.seats r ≡ Some (Some k) →
-      slice_get c.requests k.place ≡ Some q →
+      (k k' : Seat) (q : Request) (met : List FaultPoint) (ls ls' : List Line) (t : Slot)
+      (result : Result Cast WrapErr) (cast : Cast) → result ≡ Ok cast → IsSized c.limits →
+      r < length c.seats → slice_get c.seats r ≡ Some (Some k) → slice_get c.requests k.place ≡ Some q →
+      nat_lt (k.place + c.limits.k) c.stable ≡ false → IsOver c.limits.n k → IsOver c.limits.n k' →
       WatchedAt state (slice_get servers r) (slice_get servers' r) result →
-      AnsweredAt state c.limits q (slice_get servers r) (slice_get tables r) (slice_get servers' r)
-      (slice_get tables' r) w →
-      ChangesAt r servers servers' → ChangesAt r tables tables' → k'.place ≡ k.place + 1 →
-      mid ≡ record c { seats = slice_set c.seats r (Some k') } →
-      p ≡ k.place + 1 → Counted r p w mid new ls ls' → t.replica ≡ r →
+      PassedAt state c.limits q (slice_get servers r) (slice_get tables r) (slice_get servers' r)
+      (slice_get tables' r) k k' cast →
+      ChangesAt r servers servers' → ChangesAt r tables tables' →
+      mid ≡ record c { seats = slice_set c.seats r (Some k') } → Voted r cast mid new ls ls' → t.replica ≡ r →
       Turned state t c new servers servers' tables tables' met met ls ls'
-  turned_runs c mid new servers servers' tables tables' r k k' q w met ls ls' t p result cast ok few within
-      is_seat is_request watched ans sv tb k_is mid_is p_is counted t_is =
-      let e : k.place + 1 ≡ suc k.place = omega arith in
-      let k_now : k' ≡ record k { place = suc k.place } = (λ i. record { place = (k_is ∙ e) i }) in
-      let mid_now : mid ≡ record c { seats = slice_set c.seats r (Some (record k { place = suc k.place })) } =
-      mid_is ∙ ap (λ (k : Seat). let x : Kept = record c { seats = slice_set c.seats r (Some k) } in x) k_now in
-      let counted' : Counted r (suc k.place) w
-      (record c { seats = slice_set c.seats r (Some (record k { place = suc k.place })) }) new ls ls' =
-      subst (λ (v : Kept). Counted r (suc k.place) w v new ls ls') mid_now
-      (subst (λ p. Counted r p w mid new ls ls') (p_is ∙ e) counted) in
+  turned_runs c mid new servers servers' tables tables' r k k' q met ls ls' t result cast ok sized within is_seat
+      is_request near over over' watched ans sv tb mid_is voted t_is =
+      let v : Voted r cast (record c { seats = slice_set c.seats r (Some k') }) new ls ls' =
+      subst (λ (m : Kept). Voted r cast m new ls ls') mid_is voted in
       let here : r < length servers = slice_get_within servers r watched.before watched.is_before in
       let quiet = ok_count result cast ok watched in
+      let set : Kept = record c { seats = slice_set c.seats r (Some k') } in
+      let more = vote_lines r cast set new ls ls' v in
       record {
         fault = false;
-        more = cast_lines counted'.cases;
+        more = more;
         met_are = sym (append-nil met);
-        lines_are = lines_are counted'.cases;
-        tells = cast_quiet counted'.cases;
+        lines_are = vote_lines_are r cast set new ls ls' v;
+        tells = vote_quiet r cast set new ls ls' v;
         size = sv.size;
-        struck = struck_ok state servers servers' r here sv result watched (cast_lines counted'.cases)
-            (cast_quiet counted'.cases) watched.watched.limits quiet;
-        moves = turn_runs state (service c.limits) c (service_is c.limits) few servers tables r k q within is_seat
-            is_request new servers' tables' w ls ls' t t_is ans sv tb counted'.same counted'.cases;
+        struck = struck_ok state servers servers' r here sv result watched more
+            (vote_quiet r cast set new ls ls' v) watched.watched.limits quiet;
+        moves = turn_runs state (service c.limits) c (service_is c.limits sized) servers tables r k q within is_seat
+            is_request near new servers' tables' k' cast ls ls' t t_is over over' ans sv tb v;
       }
     where
       ok_count : (result : Result Cast WrapErr) (cast : Cast) → result ≡ Ok cast →
@@ -117,16 +135,15 @@ module _ {X : Type 0} (state : X → Server) where
 
   pub turned_fails : (c new : Kept) (servers servers' : List X) (tables tables' : List ConfTable) (r : ℕ) (k : Seat)
       (q : Request) (met met' : List FaultPoint) (ls ls' : List Line) (t : Slot) (result : Result Cast WrapErr) →
-      result ≡ Err errors.Down →
-      length c.requests < c.limits.k → r < length c.seats → slice_get c.seats r ≡ Some (Some k) →
-      slice_get c.requests k.place ≡ Some q →
+      result ≡ Err errors.Down → IsSized c.limits → r < length c.seats → slice_get c.seats r ≡ Some (Some k) →
+      slice_get c.requests k.place ≡ Some q → nat_lt (k.place + c.limits.k) c.stable ≡ false →
       WatchedAt state (slice_get servers r) (slice_get servers' r) result →
       ChangesAt r servers servers' → ChangesAt r tables tables' →
       new ≡ record c { seats = slice_set c.seats r None } → ls' ≡ ls ++ lines.Down r ∷ [] →
       met' ≡ met ++ record { event = c.events + 1; stage = t.round; replica = t.replica } ∷ [] → t.replica ≡ r →
       Turned state t c new servers servers' tables tables' met met' ls ls'
-  turned_fails c new servers servers' tables tables' r k q met met' ls ls' t result down few within is_seat is_request
-      watched sv tb new_is said met_is t_is =
+  turned_fails c new servers servers' tables tables' r k q met met' ls ls' t result down sized within is_seat is_request
+      near watched sv tb new_is said met_is t_is =
       let e : c.events + 1 ≡ suc c.events = omega arith in
       let here : r < length servers = slice_get_within servers r watched.before watched.is_before in
       record {
@@ -142,8 +159,8 @@ module _ {X : Type 0} (state : X → Server) where
         moves = λ faults struck m h. subst (λ (v : Kept). IsState state v servers' tables'
             (slot_turn (service c.limits) faults m t).state
             × ((slot_turn (service c.limits) faults m t).lines ≡ m.lines ++ lines.Down r ∷ [])) (sym new_is)
-            (turn_fails state (service c.limits) c (service_is c.limits) few servers tables r k q within is_seat
-            is_request servers' tables' t t_is sv tb faults struck m h);
+            (turn_fails state (service c.limits) c (service_is c.limits sized) servers tables r k q within is_seat
+            is_request near servers' tables' t t_is sv tb faults struck m h);
       }
     where
       rose : (result : Result Cast WrapErr) → result ≡ Err errors.Down →
@@ -212,9 +229,10 @@ module _ {X : Type 0} (state : X → Server) where
 
   -- the array after an answer
   pub array_after : (c : Kept) (q : Request) (servers servers' : List X) (tables tables' : List ConfTable) (r : ℕ)
-      (w : Word) → ((A : List Entry) × StandsAt state c.limits (slice_get servers r) (slice_get tables r) A) →
-      AnsweredAt state c.limits q (slice_get servers r) (slice_get tables r) (slice_get servers' r)
-      (slice_get tables' r) w →
+      (k k' : Seat) (cast : Cast) →
+      ((A : List Entry) × StandsAt state c.limits (slice_get servers r) (slice_get tables r) A) →
+      PassedAt state c.limits q (slice_get servers r) (slice_get tables r) (slice_get servers' r)
+      (slice_get tables' r) k k' cast →
       (A : List Entry) × StandsAt state c.limits (slice_get servers' r) (slice_get tables' r) A
-  array_after c q servers servers' tables tables' r w has ans =
+  array_after c q servers servers' tables tables' r k k' cast has ans =
       ((answer has.0 c.limits q.time q.bytes).array, (ans.step has.0 has.1).0)

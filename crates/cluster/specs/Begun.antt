@@ -12,14 +12,16 @@ use Rattle.cluster_model.specs.Tree.{below}
 use Rattle.cluster_model.specs.Moments.{Faults}
 use Rattle.cluster_model.specs.Run.{failed_of}
 use Rattle.replica.specs.declared.Replica.{Replica}
+use Rattle.replica.specs.Replicas.{begun}
 use Rattle.cluster.specs.Positions.{StandsAt, ChangesAt}
+use Rattle.cluster.specs.OverBench.{AreOver}
 use Rattle.cluster.specs.Turned.{AreStruckBy, FailAs, points, points_of, round_slots}
 
--- a replica whose server failed is none; another is at place 0, and its position stands for the array of a beginning
+-- a replica whose server failed is none; another is as at the beginning, and its position stands for that array
 abbrev pub SeatBegins : {X : Type 0} → (X → Server) → Limits → Bool → Option Replica → Option X → Option ConfTable →
     Type 0
 SeatBegins state limits true None s t = Unit {0}
-SeatBegins state limits false (Some k) s t = (k.place ≡ 0) × StandsAt state limits s t (empty_array limits.n)
+SeatBegins state limits false (Some k) s t = (k ≡ begun limits.n) × StandsAt state limits s t (empty_array limits.n)
 SeatBegins state limits true (Some k) s t = ⊥
 SeatBegins state limits false None s t = ⊥
 
@@ -53,6 +55,7 @@ pub record Begun {X : Type 0} (state : X → Server) (limits : Limits) (n : ℕ)
   pub faults_are : List Bool
   pub long : length faults_are ≡ n
   pub many : length seats ≡ n
+  pub over : AreOver limits.n seats
   pub met_are : met ≡ points_of 0 (round_slots 0 n) faults_are
   pub tells : flat_map failed_of ls ≡ map (λ (d : FaultPoint). d.replica) met
   pub struck : AreStruckBy state ls servers servers'

@@ -13,5 +13,8 @@ kept c = record {
   seats = c.seats.items;
   ballots = ballots c.votes;
   decisions = λ p. ordered.get nat_cmp c.decisions p;
+  roots = ballots c.roots;
+  stable = c.stable;
+  root = c.root;
   events = c.events;
 }

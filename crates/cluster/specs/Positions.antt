@@ -2,7 +2,6 @@
 -- position of the lists of servers and of tables, as `slice_get servers r`.
 use Rattle.std.specs.Prelude.{◌≡◌, ◌≢◌, ℕ, ◌≤◌, List, Option, Some, Result, slice_get, length}
 use Rattle.nfs2_types.specs.declared.Limits.{Limits}
-use Rattle.nfs2_types.specs.declared.Word.{Word}
 use Rattle.abs_model.specs.declared.Entry.{Entry}
 use Rattle.server_trait.specs.Tree.{Server}
 use Rattle.server_trait.specs.declared.ConfTable.{ConfTable}
@@ -11,6 +10,10 @@ use Rattle.conf_map.specs.Stands.{StandsValid, HasRoom}
 use Rattle.conf_map.specs.Notice.{Watched}
 use Rattle.dispatch.specs.Answer.{answer}
 use Rattle.cluster_model.specs.declared.Request.{Request}
+use Rattle.replica.specs.declared.Replica.{Replica}
+use Rattle.replica.specs.declared.Cast.{Cast}
+use Rattle.replica.specs.Replicas.{passed}
+use Rattle.replica.specs.Passed.{IsCast}
 
 -- server and table at a position stand for an array
 pub record StandsAt {X : Type 0} (state : X → Server) (limits : Limits) (s : Option X) (t : Option ConfTable)
@@ -39,12 +42,12 @@ pub record WatchedAt {X T : Type 0} (state : X → Server) (old new : Option X)
   pub is_after : new ≡ Some after
   pub watched : Watched (state before) (state after) result
 
--- the position answered a request from whatever array it stood for
-pub record AnsweredAt {X : Type 0} (state : X → Server) (limits : Limits) (q : Request) (s : Option X)
-    (t : Option ConfTable) (s' : Option X) (t' : Option ConfTable) (w : Word) : Type 0 where
+-- the replica at a position passed a request from whatever array the position stood for
+pub record PassedAt {X : Type 0} (state : X → Server) (limits : Limits) (q : Request) (s : Option X)
+    (t : Option ConfTable) (s' : Option X) (t' : Option ConfTable) (k k' : Replica) (cast : Cast) : Type 0 where
   pub step : (A : List Entry) → StandsAt state limits s t A →
-      StandsAt state limits s' t' (answer A limits q.time q.bytes).array
-      × (w ≡ (answer A limits q.time q.bytes).word)
+      let a = answer A limits q.time q.bytes in
+      StandsAt state limits s' t' a.array × (k' ≡ passed limits A a k) × IsCast limits a k' cast
 
 -- each server has the limits that it had, its count has not fallen, there are as many, and from position n on none
 -- changed

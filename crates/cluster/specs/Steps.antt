@@ -1,5 +1,5 @@
 -- What the start of a cluster does, and what a step of it does, in the terms of the model.
-use Rattle.std.specs.Prelude.{◌≡◌, ℕ, suc, ◌+◌, ◌*◌, ◌<◌, Bool, true, false, IsTrue, List, [], ◌∷◌, ◌++◌, length, All}
+use Rattle.std.specs.Prelude.{◌≡◌, ℕ, suc, ◌+◌, ◌*◌, ◌^◌, ◌<◌, Bool, true, false, IsTrue, List, [], ◌∷◌, ◌++◌, length, All}
 use Rattle.nfs2_types.specs.declared.Limits.{Limits}
 use Rattle.nfs2_types.specs.Times.{is_time}
 use Rattle.server_trait.specs.Tree.{Server}
@@ -31,10 +31,10 @@ abbrev pub asked_by : Event → List Request
 asked_by (Ask client time bytes) = record { time = time; bytes = bytes } ∷ []
 asked_by event = []
 
--- A record that can be stepped behind these requests: one more request may come before the first checkpoint, at a
--- time; a replica that is to run is one of the 3f + 1.
+-- A record that can be stepped behind these requests: a request comes at a time, and a word has its number; a replica
+-- that is to run is one of the 3f + 1.
 abbrev pub CanStep : Limits → List Request → Event → Type 0
-CanStep limits requests (Ask client time bytes) = (length requests + 1 < limits.k) × (is_time time ≡ true)
+CanStep limits requests (Ask client time bytes) = (length requests + 1 < 2 ^ 32) × (is_time time ≡ true)
 CanStep limits requests (Run r) = r < 3 * limits.f + 1
 CanStep limits requests event = IsTrue (is_built event)
 

@@ -1,5 +1,5 @@
 -- What a turn of a replica does, and turns one after the other. Contracts inside the crate and their proofs use it.
-use Rattle.std.specs.Prelude.{◌≡◌, ◌≢◌, ◌<◌, ◌≤◌, ℕ, suc, Bool, false, true, List, [], ◌∷◌, ◌++◌, map, length, slice_get, Option, Some, None}
+use Rattle.std.specs.Prelude.{◌≡◌, ◌≢◌, ◌<◌, ◌≤◌, ℕ, suc, Bool, false, true, List, [], ◌∷◌, ◌++◌, map, length, slice_get, Option, Some, None, Result, Ok, Err, ◌+◌, nat_le, nat_lt, if◌then◌else◌}
 use Rattle.std.specs.List.{flat_map}
 use Rattle.server_trait.specs.Tree.{Server}
 use Rattle.server_trait.specs.declared.ConfTable.{ConfTable}
@@ -7,12 +7,14 @@ use Rattle.server_trait.specs.declared.FaultPoint.{FaultPoint}
 use Rattle.server_trait.specs.declared.ServerLimits.{ServerLimits}
 use Rattle.log_format.specs.declared.Line.{Line}
 use Rattle.log_format.specs.declared.IdleCause.{IdleCause}
+use Rattle.log_format.specs.declared.IdleCause.TheVariants.{NotLive, AtEnd, Behind}
 use Rattle.cluster_model.specs.Tree.{below}
 use Rattle.cluster_model.specs.Moments.{Moment, Faults}
 use Rattle.cluster_model.specs.Turns.{Slot, slots, slot_turn, turn, Not, moments, last}
 use Rattle.cluster_model.specs.Run.{failed_of, strikes_in}
 use Rattle.cluster_model.specs.Struck.{IsLater}
 use Rattle.service_laws.specs.Served.{service}
+use Rattle.replica.specs.declared.Replica.{Replica}
 use Rattle.cluster.specs.OverBench.{Kept, IsState, HaveArrays, HaveRoom}
 
 -- the fault point of a turn, if its server failed
@@ -56,6 +58,15 @@ pub record TurnStays {X : Type 0} (state : X → Server) (old new : Kept) (serve
   pub same : Stays old new
   pub arrays : HaveArrays state new servers' tables'
   pub room : HaveRoom state old.limits servers'
+
+-- what a replica may run next, by its place, or why it has no turn: it is down, has run all requests, or stands too far
+-- behind the stable place
+abbrev pub next_in : Kept → Option Replica → Result ℕ IdleCause
+next_in c None = Err NotLive
+next_in c (Some k) =
+    if nat_le (length c.requests) k.place then Err AtEnd
+    else if nat_lt (k.place + c.limits.k) c.stable then Err Behind
+    else Ok k.place
 
 -- The replica has no turn, for this cause, and nothing changes; or it has one.
 abbrev pub IsIdle : {X : Type 0} → (X → Server) → Kept → Kept → List X → List X → List ConfTable → List ConfTable →

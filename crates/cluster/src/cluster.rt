@@ -2,6 +2,7 @@
 
 ghost use Rattle.std.specs.Prelude.{OnErr, OnOk, IfOk, option_map, slice_get, ◌-◌, ◌+◌, ◌*◌, suc, length, vec_len, ◌≡◌, ◌<◌, ◌≤◌, ◌^◌, ◌++◌, ◌∷◌, []};
 ghost use Rattle.conf_map.specs.Stands.{AreWithin};
+ghost use Rattle.service_laws.specs.Served.{IsSized};
 ghost use Rattle.cluster.specs.Positions.{AreLater};
 ghost use Rattle.cluster.specs.OverBench.{HaveArrays, HaveRoom};
 ghost use Rattle.cluster.specs.Steps.{is_built as is_step_built, CanStep, Starts, Steps};
@@ -11,11 +12,13 @@ mod begins;
 mod state;
 mod steps;
 mod turns;
+mod votes;
 
 use crate::lists::push_points;
 use begins::{Begun, begin_all};
 use log_format::{Event, Line};
 use nfs2_types::{Limits, NoMemory, Time};
+use replica::empty_tree;
 use reply_vote::Votes;
 use server_trait::{Bench, FileServer, Srv};
 pub use state::Cluster;
@@ -42,6 +45,7 @@ impl Cluster {
         limits: &Limits,
     ) -> Result<(Cluster, Vec<Line>), NoMemory>
         requires within { AreWithin limits.now }
+        requires sizes { IsSized limits.now }
         requires replicas { limits.now.f ≤ 2 }
         requires interval { 0 < limits.now.k }
         requires enough { 3 * limits.now.f + 1 ≤ vec_len bench.old.servers }
@@ -55,10 +59,11 @@ impl Cluster {
             bench.old.servers.items bench.new.servers.items }
     {
         let replicas = 3 * limits.f + 1;
-        let interval = limits.k;
-        prove!(interval > 0);
         let Begun { seats, met, lines } = begin_all(alloc, bench, limits, replicas)?;
+        let tree = empty_tree(alloc, limits.n)?;
+        let root = tree.root();
         let votes = Votes::new(alloc, replicas, limits.f + 1)?;
+        let roots = Votes::new(alloc, replicas, 2 * limits.f + 1)?;
         bench.downs = met;
         let cluster = Cluster {
             limits: *limits,
@@ -66,6 +71,9 @@ impl Cluster {
             seats,
             votes,
             decisions: BTreeMap::new(alloc),
+            roots,
+            stable: 0,
+            root,
             events: 0,
         };
         Ok((cluster, lines))
@@ -74,7 +82,7 @@ impl Cluster {
     /// How many requests there are.
     pub fn asked(&self) -> usize
         ensures length { result ≡ length (kept self.now).requests }
-        ensures few { result < (kept self.now).limits.k }
+        ensures few { result < 2 ^ 32 }
     {
         self.requests.len()
     }

@@ -1,11 +1,13 @@
 //! A replica over its position of the bench.
 
-ghost use Rattle.std.specs.Prelude.{◌≡◌, ◌<◌, ◌+◌, ◌^◌, true, List, IfOk, OnErr, OnOk, slice_get, vec_len};
+ghost use Rattle.std.specs.Prelude.{◌≡◌, ◌<◌, ◌+◌, ◌^◌, true, List, IfOk, OnOk, slice_get, vec_len};
 ghost use Rattle.nfs2_types.specs.Times.{is_time};
 ghost use Rattle.abs_model.specs.declared.Entry.{Entry};
 ghost use Rattle.abs_model.specs.Array.{empty_array};
 ghost use Rattle.conf_map.specs.Stands.{AreWithin};
-ghost use Rattle.cluster.specs.Positions.{StandsAt, HasRoomAt, WatchedAt, ChangesAt, AnsweredAt};
+ghost use Rattle.partition_tree.specs.Digests.{IsTreeSize};
+ghost use Rattle.replica.specs.Replicas.{IsOver, begun};
+ghost use Rattle.cluster.specs.Positions.{StandsAt, HasRoomAt, WatchedAt, ChangesAt, PassedAt};
 
 use cluster_model::Request;
 use nfs2_types::Limits;
@@ -25,14 +27,15 @@ pub fn run_at(
     requires stands { (A : List Entry) × StandsAt ⟦<Srv as FileServer>⟧.state limits.now
         (slice_get bench.old.servers.items r) (slice_get bench.old.tables.items r) A }
     requires room { HasRoomAt ⟦<Srv as FileServer>⟧.state limits.now (slice_get bench.old.servers.items r) }
+    requires over { IsOver limits.now.n replica.old }
     requires within { AreWithin limits.now }
     requires time { is_time request.now.time ≡ true }
     requires place { replica.old.place + 1 < 2 ^ 32 }
-    ensures answered { IfOk result (λ cast. AnsweredAt ⟦<Srv as FileServer>⟧.state limits.now request.now
+    requires interval { 0 < limits.now.k }
+    ensures passed { IfOk result (λ cast. PassedAt ⟦<Srv as FileServer>⟧.state limits.now request.now
         (slice_get bench.old.servers.items r) (slice_get bench.old.tables.items r)
-        (slice_get bench.new.servers.items r) (slice_get bench.new.tables.items r) cast.word) }
-    ensures place { IfOk result (λ cast. cast.place ≡ replica.old.place + 1) }
-    ensures passed { OnOk result (replica.new.place ≡ replica.old.place + 1) }
+        (slice_get bench.new.servers.items r) (slice_get bench.new.tables.items r) replica.old replica.new cast) }
+    ensures over { OnOk result (IsOver limits.now.n replica.new) }
     ensures watched { WatchedAt ⟦<Srv as FileServer>⟧.state
         (slice_get bench.old.servers.items r) (slice_get bench.new.servers.items r) result }
     ensures servers { ChangesAt r bench.old.servers.items bench.new.servers.items }
@@ -57,10 +60,11 @@ pub fn fresh_at(
     limits: &Limits,
 ) -> Result<Replica, WrapErr>
     requires within { AreWithin limits.now }
+    requires size { IsTreeSize limits.now.n }
     requires server { r < vec_len bench.old.servers }
     requires table { r < vec_len bench.old.tables }
     requires room { HasRoomAt ⟦<Srv as FileServer>⟧.state limits.now (slice_get bench.old.servers.items r) }
-    ensures place { IfOk result (λ k. k.place ≡ 0) }
+    ensures begins { IfOk result (λ k. k ≡ begun limits.now.n) }
     ensures stands { OnOk result (StandsAt ⟦<Srv as FileServer>⟧.state limits.now
         (slice_get bench.new.servers.items r) (slice_get bench.new.tables.items r) (empty_array limits.now.n)) }
     ensures watched { WatchedAt ⟦<Srv as FileServer>⟧.state

@@ -26,7 +26,7 @@ words_right S q ws ds (Live l) h = All-weaker (IsRightWord S q l.place) (IsRight
 words_right S q ws ds Down h = h.0
 words_right S q ws ds (Rebuilding b) h = absurd h
 
-roots_right : (S : Service) (q : List Request) (ws : List (ℕ × Word)) (ds : List (ℕ × List ℕ)) (c : Condition) →
+pub roots_right : (S : Service) (q : List Request) (ws : List (ℕ × Word)) (ds : List (ℕ × List ℕ)) (c : Condition) →
     IsCalmIn S q ws ds c → All (IsPlaceRoot S q) ds
 roots_right S q ws ds (Live l) h = All-weaker (IsRightRoot S q l) (IsPlaceRoot S q)
     (λ d g. (omega (arith, g.1, h.1.place), g.2)) ds h.1.rooted

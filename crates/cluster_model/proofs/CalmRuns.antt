@@ -26,8 +26,13 @@ use Rattle.cluster_model.proofs.Turns.{casts_condition, casts_requests}
 use Rattle.cluster_model.proofs.Steps.{turn_cases, prints_state, begins_right}
 use Rattle.cluster_model.proofs.Voted.{Voted, Always-moments, Always-append, Always-last}
 use Rattle.cluster_model.proofs.VotedRuns.{enough_by, run_voted_all}
-use Rattle.cluster_model.specs.Run.{Always, HasEnough, LooseFrom, LooseRun, start}
+use Rattle.cluster_model.specs.Run.{Always, LooseFrom, LooseRun, start}
+use Rattle.cluster_model.specs.Settled.{IsRootSettled}
+use Rattle.cluster_model.specs.Served.{IsServed}
 use Rattle.cluster_model.specs.Loose.{LooseStep}
+use Rattle.cluster_model.proofs.Lines.{Chain}
+use Rattle.cluster_model.proofs.Headline.{tail, tail_chain, Carried, carries, IsRightStable}
+use Rattle.cluster_model.proofs.CalmRoots.{AllPassed, run_passed_roots, run_root_settled, enough_roots}
 use Rattle.cluster_model.proofs.Calm.{casts_root_calm, casts_word_calm, fails_calm, put_calm, replica_calm}
 
 -- a replica passes its next place
@@ -249,18 +254,27 @@ module _ (S : Service) (laws : IsOrderly S) where
   sound_calm q x Down e h u = absurd (cc)
   sound_calm q x (Rebuilding b) e h u = absurd h
 
-  abbrev pub CalmAndEnough : Moment → Type 0
-  CalmAndEnough m = IsCalm S m.state × HasEnough S m
+  abbrev CarriedAt : Moment → Type 0
+  CarriedAt m = Carried S m
 
-  calm_enough : (ms : List Moment) → Always CalmAt ms → Always (Voted S) ms → Always CalmAndEnough ms
-  calm_enough [] h g = tt
-  calm_enough (m ∷ ms) h g = (
-    (
-      h.0,
-      enough_by S m (λ r u. sound_calm m.state.requests (replica m.state r) (replica m.state r).condition refl
-          (replica_calm S m.state r h.0) u) g.0,
-    ),
-    calm_enough ms h.1 g.1,
+  calm_carried : (m : Moment) (ms : List Moment) → Chain m ms → Carried S m → Always CalmAt ms → Always CarriedAt ms
+  calm_carried m [] chain h g = tt
+  calm_carried m (n ∷ ms) chain h g =
+      let calm : IsCalm S n.state = g.0 in
+      let k = carries S m n chain.0 (calm.stable, calm.stable_root) h in (k, calm_carried n ms chain.1 k g.1)
+
+  calm_served : (ms : List Moment) → Always CalmAt ms → Always (Voted S) ms → Always CarriedAt ms →
+      Always (AllPassed S) ms → Always (λ n. IsRootSettled S n.state) ms → Always (IsServed S) ms
+  calm_served [] h g c a d = tt
+  calm_served (m ∷ ms) h g c a d = (
+    record {
+      calm = h.0;
+      enough = enough_by S m (λ r u. sound_calm m.state.requests (replica m.state r) (replica m.state r).condition refl
+          (replica_calm S m.state r h.0) u) g.0;
+      rooted = c.0.1;
+      enough_roots = enough_roots S m h.0 a.0 d.0;
+    },
+    calm_served ms h.1 g.1 c.1 a.1 d.1,
   )
 
   -- without a Fetch a loose run is Step's
@@ -292,13 +306,18 @@ module _ (S : Service) (laws : IsOrderly S) where
       (last m now) loose.1 (All-tail IsHarmless event events harmless) loose.4 in
       loose.2 ∙ ap (λ xs. now ++ xs) rest ∙ ap (λ ns. ns ++ run_from S downs (suc e) events (last m ns)) same
 
-  -- of the code's runs: right at each moment, and no place waits that f + 1 Live replicas have run
+  -- of the code's runs
   pub loose_run_calm : (servers : ℕ) (downs : List FaultPoint) (events : List Event) → All IsHarmless events →
-      (ms : List Moment) → LooseRun S servers downs events ms → Always CalmAndEnough ms
+      (ms : List Moment) → LooseRun S servers downs events ms → Always (IsServed S) ms
   loose_run_calm servers downs events harmless ms loose =
       let ss = start S servers downs in
       let same : ms ≡ run S servers downs events = loose.1
       ∙ ap (λ xs. ss ++ xs) (same_from downs 1 events (last (fresh S servers) ss) loose.0 harmless loose.2) in
-      subst (Always CalmAndEnough) (sym same)
-      (calm_enough (run S servers downs events) (run_all_calm servers downs events harmless)
-      (run_voted_all S servers downs events))
+      let all = run_all_calm servers downs events harmless in
+      let first : Carried S (fresh S servers) = (refl, All-nil (IsRightStable S [])) in
+      subst (Always (IsServed S)) (sym same)
+      (calm_served (run S servers downs events) all
+      (run_voted_all S servers downs events)
+      (first, calm_carried (fresh S servers) (tail S servers downs events) (tail_chain S servers downs events) first all.1)
+      (run_passed_roots S servers downs events harmless)
+      (run_root_settled S servers downs events harmless))

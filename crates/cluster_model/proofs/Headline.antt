@@ -37,12 +37,12 @@ run_from_chain S downs e (event ∷ events) m =
     (run_from_chain S downs (suc e) events (last m ms))
 
 -- the moments after the first
-abbrev tail : Service → ℕ → List FaultPoint → List Event → List Moment
+abbrev pub tail : Service → ℕ → List FaultPoint → List Event → List Moment
 tail S servers downs events =
     let ms = moments (start_fault (faults_in downs 0)) (fresh S servers) (below (3 * S.f + 1)) in
     ms ++ run_from S downs 1 events (last (fresh S servers) ms)
 
-tail_chain : (S : Service) (servers : ℕ) (downs : List FaultPoint) (events : List Event) →
+pub tail_chain : (S : Service) (servers : ℕ) (downs : List FaultPoint) (events : List Event) →
     Chain (fresh S servers) (tail S servers downs events)
 tail_chain S servers downs events =
     let m = fresh S servers in
@@ -52,11 +52,11 @@ tail_chain S servers downs events =
     (below (3 * S.f + 1)))
     (run_from_chain S downs 1 events (last m ms))
 
-abbrev IsRightStable : Service → List Request → ℕ × List ℕ → Type 0
+abbrev pub IsRightStable : Service → List Request → ℕ × List ℕ → Type 0
 IsRightStable S q d = (d.0 ≤ length q) × (d.1 ≡ root S (array_at S q d.0))
 
 -- what is carried along
-abbrev Carried : Service → Moment → Type 0
+abbrev pub Carried : Service → Moment → Type 0
 Carried S m = (replies m.lines ≡ m.state.decisions) × All (IsRightStable S m.state.requests) (stables m.lines)
 
 stable_longer : (S : Service) (q : List Request) (r : Request) (d : ℕ × List ℕ) → IsRightStable S q d →
@@ -65,7 +65,8 @@ stable_longer S q r d h =
     let e : length (q ++ r ∷ []) ≡ length q + 1 = length-append q (r ∷ []) in
     (omega (arith, h.0), h.1 ∙ ap (root S) (sym (array_at-append S q r d.0 h.0)))
 
-carries : (S : Service) (m n : Moment) → Grows m n → IsRight S n.state → Carried S m → Carried S n
+pub carries : (S : Service) (m n : Moment) → Grows m n →
+    IsRightStable S n.state.requests (n.state.stable, n.state.root) → Carried S m → Carried S n
 carries S m n g right h =
     let still : All (IsRightStable S n.state.requests) (stables m.lines) = ⊎_elim
     (λ e. subst (λ q. All (IsRightStable S q) (stables m.lines)) (sym e) h.1)
@@ -77,8 +78,7 @@ carries S m n g right h =
       ⊎_elim
           (λ e. subst (All (IsRightStable S n.state.requests)) (sym e) still)
           (λ e. subst (All (IsRightStable S n.state.requests)) (sym e)
-          (All-push (IsRightStable S n.state.requests) (stables m.lines) (n.state.stable, n.state.root) still
-          (right.stable, right.stable_root)))
+          (All-push (IsRightStable S n.state.requests) (stables m.lines) (n.state.stable, n.state.root) still right))
           g.kept,
     )
 
@@ -89,7 +89,8 @@ carried : (S : Service) (m : Moment) (ms : List Moment) → Chain m ms → Carri
     Upto (IsFair S) (Both S) ms
 carried S m [] chain h g = tt
 carried S m (n ∷ ms) chain h g = λ fair.
-    let k = carries S m n chain.0 (g fair).0 h in
+    let r : IsRight S n.state = (g fair).0 in
+    let k = carries S m n chain.0 (r.stable, r.stable_root) h in
     (((g fair).0, k), carried S n ms chain.1 k (g fair).1)
 
 told_right : (S : Service) (m : Moment) → Both S m → IsToldRight S m

@@ -30,6 +30,8 @@ pub mod Voted
 pub mod VotedRuns
 pub mod Growing
 pub mod Calm
+pub mod RanRoots
+pub mod CalmRoots
 pub mod CalmRuns
 pub mod Sources
 pub mod Keeping

@@ -52,7 +52,7 @@ only_word S r p w v s h open' many = by (same_word v w) refl
 
 -- Root words
 
-lookup-above : {X : Type 0} (p k : ℕ) (ws : List (ℕ × X)) → p < k → lookup k (above p ws) ≡ lookup k ws
+pub lookup-above : {X : Type 0} (p k : ℕ) (ws : List (ℕ × X)) → p < k → lookup k (above p ws) ≡ lookup k ws
 lookup-above p k [] h = refl
 lookup-above p k (x ∷ xs) h = by (nat_lt p x.0) (x.0 == k) refl refl (lookup-above p k xs h)
   where

@@ -42,7 +42,7 @@ count_below P d xs (suc n) h =
     sum_by_push (λ x. bit (P x)) (take n xs) (get_or xs n d) in
     one ∙ ap (λ k. k + bit (P (get_or xs n d))) rest ∙ sym two ∙ ap (count_by P) (sym same)
 
-count_all : {X : Type 0} (P : X → Bool) (d : X) (xs : List X) →
+pub count_all : {X : Type 0} (P : X → Bool) (d : X) (xs : List X) →
     count_by (λ r. P (get_or xs r d)) (below (length xs)) ≡ count_by P xs
 count_all P d xs = count_below P d xs (length xs) (omega arith)
     ∙ ap (count_by P) (take_all (length xs) xs (omega arith))
@@ -51,11 +51,11 @@ same_word-refl : (w : Word) → same_word w w ≡ true
 same_word-refl Silent = refl
 same_word-refl (Reply b) = (bytes_eq-Decides b b).1 refl
 
-and_true : (a b : Bool) → (a && b) ≡ true → (a ≡ true) × (b ≡ true)
+pub and_true : (a b : Bool) → (a && b) ≡ true → (a ≡ true) × (b ≡ true)
 and_true true b e = (refl, e)
 and_true false b e = absurd (cc)
 
-not_true : (a : Bool) → not a ≡ true → a ≡ false
+pub not_true : (a : Bool) → not a ≡ true → a ≡ false
 not_true true e = absurd (cc)
 not_true false e = refl
 

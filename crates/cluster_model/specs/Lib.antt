@@ -12,6 +12,7 @@ pub mod Settled
 pub mod Calm
 pub mod Loose
 pub mod Run
+pub mod Served
 pub mod Struck
 pub mod Walk
 pub mod Steady

@@ -11,7 +11,7 @@ use Rattle.cluster_model.specs.Service.{Service, array_at, said_at}
 use Rattle.cluster_model.specs.Tree.{root, below}
 use Rattle.cluster_model.specs.State.{Condition, Live, Down, Rebuilding, is_unsound, lookup}
 use Rattle.cluster_model.specs.Moments.{is_decided, Moment, Faults, decision_line, replica, fails}
-use Rattle.cluster_model.specs.Turns.{moments, last, begins}
+use Rattle.cluster_model.specs.Turns.{moments, last, begins, is_checkpoint}
 use Rattle.cluster_model.specs.Step.{step}
 use Rattle.cluster_model.specs.Fair.{IsFair, IsText}
 use Rattle.cluster_model.specs.Right.{IsRight}
@@ -211,6 +211,12 @@ has_run p m r = not (is_unsound (replica m.state r)) &&
 abbrev pub HasEnough : Service → Moment → Type 0
 HasEnough S m = (p : ℕ) → S.f + 1 ≤ count_by (has_run p m) (below (length m.state.replicas)) →
     is_decided p m.state ≡ true
+
+-- each place of a checkpoint that 2f + 1 sound replicas have run since their last rebuild is stable, or lies below
+-- the stable one
+abbrev pub HasEnoughRoots : Service → Moment → Type 0
+HasEnoughRoots S m = (p : ℕ) → is_checkpoint S p ≡ true →
+    2 * S.f + 1 ≤ count_by (has_run p m) (below (length m.state.replicas)) → p ≤ m.state.stable
 
 -- each place that 2f + 1 replicas have run since their last rebuild is decided, where at most f replicas
 -- are unsound: these may have run it and failed, or be harmed, whatever stands of them

@@ -1,1 +1,5 @@
+pub mod EmptyArray
+pub mod Told
+pub mod Refreshed
+pub mod Overs
 pub mod Answering

@@ -1,30 +1,42 @@
 //! A live replica.
 
-ghost use Rattle.std.specs.Prelude.{◌≡◌, ◌<◌, ◌+◌, ◌^◌, true, List, IfOk, OnErr, OnOk};
+ghost use Rattle.std.specs.Prelude.{◌≡◌, ◌<◌, ◌+◌, ◌^◌, true, length, List, IfOk, OnOk};
 ghost use Rattle.nfs2_types.specs.Times.{is_time};
 ghost use Rattle.abs_model.specs.declared.Entry.{Entry};
 ghost use Rattle.abs_model.specs.Array.{empty_array};
-ghost use Rattle.conf_map.specs.Stands.{StandsValid, AreWithin, HasRoom};
+ghost use Rattle.conf_map.specs.Stands.{StandValid, StandsValid, AreWithin, HasRoom};
 ghost use Rattle.conf_map.specs.Notice.{Watched};
-ghost use Rattle.replica.specs.Answered.{Answered};
+ghost use Rattle.partition_tree.specs.Digests.{IsTreeSize};
+ghost use Rattle.cow_checkpoint.specs.Store.{drops};
+ghost use Rattle.replica.specs.Replicas.{IsOver, IsRootWord, begun, takes_checkpoint, checked};
+ghost use Rattle.replica.specs.Passed.{Passed};
 
-use conf_map::{TouchList, fresh};
+use crate::beginning::empty_tree;
+use crate::refreshing::refresh;
+use conf_map::fresh;
+use cow_checkpoint::CheckpointStore;
 use dispatch::answer;
-use nfs2_types::{Limits, Time, Word};
+use nfs2_types::{Digest, Limits, Time, Word};
+use partition_tree::Tree;
 use server_trait::{ConfTable, Srv, WrapErr};
 use std::alloc::Global;
 
-/// A live replica: how many requests it has passed. Its array is what its server and table stand for; it keeps none.
-#[derive(Clone, Copy, Debug, PartialEq, Eq)]
+/// A live replica: how many requests it has passed, the digests that it believes of its array, and its checkpoints.
+/// Its array is what its server and table stand for; it keeps none.
+#[derive(Drop)]
 pub struct Replica {
     pub place: u32,
+    pub tree: Tree,
+    pub store: CheckpointStore,
 }
 
-/// The word that a replica casts for a place, the first place being 1.
+/// The words that a replica casts for a place, the first place being 1: the reply word, and the root of its digests
+/// where a checkpoint was taken.
 #[derive(Debug, Drop)]
 pub struct Cast {
     pub place: u32,
     pub word: Word,
+    pub root: Option<Digest>,
 }
 
 impl Replica {
@@ -36,18 +48,27 @@ impl Replica {
         limits: &Limits,
     ) -> Result<Replica, WrapErr>
         requires within { AreWithin limits.now }
+        requires size { IsTreeSize limits.now.n }
         requires room { HasRoom limits.now (state server.old).limits }
-        ensures place { IfOk result (λ k. k.place ≡ 0) }
+        ensures begins { IfOk result (λ k. k ≡ begun limits.now.n) }
         ensures stands { OnOk result (StandsValid limits.now (state server.new).tree table.new
             (empty_array limits.now.n)) }
         ensures watched { Watched (state server.old) (state server.new) result }
     {
+        let tree = empty_tree(alloc, limits.n)?;
+        let first = tree.copy(alloc)?;
+        let store = CheckpointStore::new(alloc, 0, first)?;
         fresh(alloc, server, table, limits.n)?;
-        Ok(Replica { place: 0 })
+        Ok(Replica {
+            place: 0,
+            tree,
+            store,
+        })
     }
 
-    /// Runs the request behind its place, from whatever array server and table stand for, and passes that place.
-    /// After an error server and table stand for nothing. `Down`: the server failed.
+    /// Runs the request behind its place, from whatever array server and table stand for, passes that place, and takes
+    /// a checkpoint where one is due. After an error nothing is said of the replica, and server and table stand for
+    /// nothing. `Down`: the server failed.
     pub fn run_next(
         &mut self,
         alloc: Global,
@@ -58,23 +79,79 @@ impl Replica {
         call: &[u8],
     ) -> Result<Cast, WrapErr>
         requires stands { (A : List Entry) × StandsValid limits.now (state server.old).tree table.old A }
+        requires over { IsOver limits.now.n self.old }
         requires within { AreWithin limits.now }
         requires room { HasRoom limits.now (state server.old).limits }
         requires time { is_time time ≡ true }
         requires place { self.old.place + 1 < 2 ^ 32 }
-        ensures answered { IfOk result (λ cast. Answered limits.now time call.now
-            (state server.old).tree (state server.new).tree table.old table.new cast.word) }
-        ensures place { IfOk result (λ cast. cast.place ≡ self.old.place + 1) }
-        ensures passed { OnOk result (self.new.place ≡ self.old.place + 1) }
-        ensures same { OnErr result (self.new ≡ self.old) }
+        requires interval { 0 < limits.now.k }
+        ensures passed { IfOk result (λ cast. Passed limits.now time call.now
+            (state server.old).tree (state server.new).tree table.old table.new self.old self.new cast) }
+        ensures over { OnOk result (IsOver limits.now.n self.new) }
         ensures watched { Watched (state server.old) (state server.new) result }
     {
-        let mut saver = TouchList::new(alloc);
-        let word = answer(alloc, server, table, limits, time, call, &mut saver)?;
+        let word = answer(alloc, server, table, limits, time, call, &mut self.store)?;
         self.place += 1;
+        let root = self.check(alloc, server, table, limits)?;
         Ok(Cast {
             place: self.place,
             word,
+            root,
         })
+    }
+
+    /// Takes the checkpoint of its place where one is due, and gives the root of its digests then.
+    fn check(
+        &mut self,
+        alloc: Global,
+        server: &mut Srv,
+        table: &ConfTable,
+        limits: &Limits,
+    ) -> Result<Option<Digest>, WrapErr>
+        requires stands { (A : List Entry) × StandValid (state server.old).tree table.now A }
+        requires rows { length table.now.rows.items ≡ limits.now.n }
+        requires over { IsOver limits.now.n self.old }
+        requires later { self.old.store.taken < self.old.place }
+        requires interval { 0 < limits.now.k }
+        ensures checked { OnOk result ((A : List Entry) → StandValid (state server.old).tree table.now A →
+            self.new ≡ checked limits.now A self.old) }
+        ensures root { IfOk result (λ root. IsRootWord limits.now self.new root) }
+        ensures over { OnOk result (IsOver limits.now.n self.new) }
+        ensures same { OnOk result ((state server.new).tree ≡ (state server.old).tree) }
+        ensures watched { Watched (state server.old) (state server.new) result }
+    {
+        if self.place % limits.k != 0 {
+            return Ok(None);
+        }
+        self.take_checkpoint(alloc, server, table)?;
+        Ok(Some(self.tree.root()))
+    }
+
+    /// Brings the digests of the objects told up to date, and takes the checkpoint of its place.
+    fn take_checkpoint(
+        &mut self,
+        alloc: Global,
+        server: &mut Srv,
+        table: &ConfTable,
+    ) -> Result<(), WrapErr>
+        requires stands { (A : List Entry) × StandValid (state server.old).tree table.now A }
+        requires over { IsOver (length table.now.rows.items) self.old }
+        requires later { self.old.store.taken < self.old.place }
+        ensures taken { OnOk result ((A : List Entry) → StandValid (state server.old).tree table.now A →
+            self.new ≡ takes_checkpoint A self.old) }
+        ensures same { OnOk result ((state server.new).tree ≡ (state server.old).tree) }
+        ensures watched { Watched (state server.old) (state server.new) result }
+    {
+        let told = self.store.touched()?;
+        refresh(alloc, server, table, &mut self.tree, told.as_slice())?;
+        self.store.take(self.place, &self.tree)?;
+        Ok(())
+    }
+
+    /// Forgets the checkpoints of places below a stable one. It takes no memory.
+    pub fn stable_at(&mut self, place: u32)
+        ensures { self.new ≡ record self.old { store = drops place self.old.store } }
+    {
+        self.store.drop_before(place);
     }
 }

@@ -7,8 +7,9 @@ ghost use Rattle.server_trait.specs.declared.FaultPoint.{FaultPoint};
 ghost use Rattle.cluster_model.specs.Moments.{Moment};
 ghost use Rattle.cluster_model.specs.Right.{IsLawful};
 ghost use Rattle.cluster_model.specs.Good.{FitsEvent};
-ghost use Rattle.cluster_model.specs.Calm.{IsCalm, IsHarmless};
-ghost use Rattle.cluster_model.specs.Run.{LooseRun, SameUptoApart, UptoApart, Always, HasEnough, IsAsPromised, run, nothing};
+ghost use Rattle.cluster_model.specs.Calm.{IsHarmless};
+ghost use Rattle.cluster_model.specs.Run.{LooseRun, SameUptoApart, UptoApart, Always, IsAsPromised, run, nothing};
+ghost use Rattle.cluster_model.specs.Served.{IsServed};
 ghost use Rattle.service_laws.specs.Served.{IsSized, service};
 
 /// The service keeps all the laws that the model asks for.
@@ -32,5 +33,5 @@ pub fn service_runs()
     ensures calm { (limits : Limits) →
         (servers : ℕ) (downs : List FaultPoint) (events : List Event) → All IsHarmless events → (ms : List Moment) →
         LooseRun (service limits) servers downs events ms →
-        Always (λ m. IsCalm (service limits) m.state × HasEnough (service limits) m) ms }
+        Always (IsServed (service limits)) ms }
 {}

@@ -1,71 +1,10 @@
-//! Several replicas, whose servers fail or that run one by one.
+//! Several replicas that run one by one.
 
-ghost use Rattle.std.specs.Prelude.{◌<◌, ◌≤◌};
-
-use super::session::{Fault, KEEP, OK, ROOT, Session, bench_of, file, handle};
+use super::session::bench_of;
 use super::{END, RUN, RUN_ALL, WHOLE, header, log_of, null_request, run_bench};
 use crate::status::Status;
-use flaky_server::SrvCall;
-use std::alloc::{AllocError, Global};
+use std::alloc::Global;
 use std::test::Fail;
-
-/// The name "a".
-const A: [u32; 2] = [1, 0x61000000];
-
-/// The bytes "hello" behind their number.
-const HELLO: [u32; 3] = [5, 0x68656c6c, 0x6f000000];
-
-/// A file is made, written and read.
-fn a_file(alloc: Global) -> Result<Session, AllocError> {
-    let mut s = Session::new(alloc, 65536);
-    let a = handle(1, 1);
-    let made = file(2, 1, 0, 0, [1, 1, 1]);
-    let written = file(2, 1, 5, 1, [1, 2, 2]);
-    s.nfs(alloc, 9, &[&ROOT, &A, &KEEP], &[&OK, &a, &made])?;
-    s.nfs(alloc, 8, &[&a, &[0, 0, 0], &HELLO], &[&OK, &written])?;
-    s.nfs(alloc, 6, &[&a, &[0, 5, 0]], &[&OK, &written, &HELLO])?;
-    Ok(s)
-}
-
-/// Kinds of calls, each with the record of that log in which a server gets the first of them. The start wipes the
-/// server, makes two directories in it, and sets their attributes.
-const CALLS: [(SrvCall, u64); 6] = [
-    (SrvCall::Wipe, 0),
-    (SrvCall::Mkdir, 0),
-    (SrvCall::SetAttr, 0),
-    (SrvCall::Create, 2),
-    (SrvCall::Write, 4),
-    (SrvCall::Read, 6),
-];
-
-/// The servers of a replica and of the next one fail, each at each kind of call, or that of the first alone.
-fn run_all_faults(alloc: Global, s: &Session, f: u32, first: usize) -> Result<(), Fail>
-    requires few { f ≤ 2 }
-    requires replica { first < 7 }
-{
-    let count = 3 * f as usize + 1;
-    for (call, event) in CALLS {
-        let mut faults = [None; 7];
-        faults[first] = Some(Fault { call, event });
-        s.runs_with(alloc, f, &faults[..count])?;
-        for (call, event) in CALLS {
-            faults[(first + 1) % count] = Some(Fault { call, event });
-            s.runs_with(alloc, f, &faults[..count])?;
-        }
-    }
-    Ok(())
-}
-
-#[test]
-fn servers_fail_at_each_call(rt: HostRuntime) -> Result<(), Fail> {
-    let s = a_file(rt.alloc())?;
-    for f in 0..=2u32 {
-        for first in 0..3 * f as usize + 1 {
-            run_all_faults(rt.alloc(), &s, f, first)?;
-        }
-    }
-    Ok(())
-}
 
 /// The status of a run over so many servers of one call of the procedure 0 and these words behind it, and whether it
 /// prints this text.

@@ -1,6 +1,6 @@
 //! Logs that grow call by call, beside the lines that they print.
 
-ghost use Rattle.std.specs.Prelude.{◌≡◌, vec_len, IfOk};
+ghost use Rattle.std.specs.Prelude.{◌≡◌, ◌<◌, ◌≤◌, ◌+◌, ◌*◌, ◌^◌, vec_len, IfOk};
 
 use super::{END, RUN_ALL, WHOLE, bytes_of, flaky, from_call, log_of, run_bench};
 use crate::status::Status;
@@ -39,20 +39,26 @@ pub fn directory(fileid: u32, time: u32) -> [u32; 17] {
     ]
 }
 
-/// Where the server of a replica fails: at its first call of a kind, which it makes in the record with this number, the
-/// start being 0.
+/// Where the server of a replica fails: at the call of a kind with this number, counted from 1, and at each behind it. It
+/// gets that call in the record with the number `event`, the start being 0.
 #[derive(Clone, Copy, Debug, PartialEq, Eq)]
 pub struct Fault {
     pub call: SrvCall,
+    pub number: u64,
     pub event: u64,
 }
 
-/// Calls, each of which is run at once, and the line of each reply.
+/// A place of a checkpoint, and the root of the array there in hexadecimal digits.
+pub type Root = (usize, &'static str);
+
+/// Calls, each of which is run at once, and the line of each reply. A checkpoint comes each `interval` calls.
 #[derive(Drop)]
 pub struct Session {
     bytes: u32,
+    interval: u32,
     records: Vec<u8>,
     replies: Vec<String>,
+    roots: Vec<Root>,
 }
 
 /// What a run prints, and where servers fail in it.
@@ -62,8 +68,17 @@ struct Course {
     points: Vec<FaultPoint>,
 }
 
+/// How many replicas there are.
+fn replicas_of(f: u32) -> u32
+    requires { f ≤ 2 }
+    ensures count { result ≡ 3 * f + 1 }
+    ensures few { result ≤ 7 }
+{
+    3 * f + 1
+}
+
 /// Whether a server fails in this record.
-fn fails_at(fault: Option<Fault>, event: u64) -> bool {
+fn is_failing(fault: Option<Fault>, event: u64) -> bool {
     match fault {
         Some(fault) => fault.event == event,
         None => false,
@@ -96,7 +111,7 @@ impl Course {
     fn starts(&mut self, alloc: Global, faults: &[Option<Fault>]) -> Result<(), Fail> {
         let mut r = 0u32;
         for fault in faults {
-            if fails_at(*fault, 0) {
+            if is_failing(*fault, 0) {
                 self.fails(alloc, 0, r)?;
             }
             r = r.saturating_add(1);
@@ -104,24 +119,29 @@ impl Course {
         Ok(())
     }
 
-    /// Each replica runs a request, and f + 1 of them decide the reply.
+    /// Each replica runs a request. f + 1 of them decide the reply, and 2f + 1 make the place stable where it is that of a
+    /// checkpoint.
     fn runs(
         &mut self,
         alloc: Global,
         f: u32,
         event: u64,
         reply: &str,
+        stable: &str,
         faults: &[Option<Fault>],
     ) -> Result<(), Fail> {
         let mut r = 0u32;
         let mut words = 0u32;
         for fault in faults {
-            if fails_at(*fault, event) {
+            if is_failing(*fault, event) {
                 self.fails(alloc, event, r)?;
             } else if !is_down(*fault, event) {
                 words = words.saturating_add(1);
                 if words == f.saturating_add(1) {
                     self.lines.extend_from_slice(reply.as_bytes())?;
+                }
+                if words == f.saturating_mul(2).saturating_add(1) {
+                    self.lines.extend_from_slice(stable.as_bytes())?;
                 }
             }
             r = r.saturating_add(1);
@@ -157,7 +177,7 @@ pub fn bench_of(alloc: Global, count: u32, faults: &[Option<Fault>]) -> Result<B
     for r in 0..count {
         let mut fails = Vec::new(alloc);
         if let Some(Some(fault)) = faults.get(r as usize) {
-            fails.push(from_call(fault.call, 1))?;
+            fails.push(from_call(fault.call, fault.number))?;
         }
         servers.push(flaky(alloc, fails)?)?;
     }
@@ -165,13 +185,38 @@ pub fn bench_of(alloc: Global, count: u32, faults: &[Option<Fault>]) -> Result<B
 }
 
 impl Session {
-    /// No calls, over 16 entries of at most so many bytes.
+    /// No calls, over 16 entries of at most so many bytes, with a checkpoint each 1,024 calls.
     pub fn new(alloc: Global, bytes: u32) -> Session {
         Session {
             bytes,
+            interval: 1024,
             records: Vec::new(alloc),
             replies: Vec::new(alloc),
+            roots: Vec::new(alloc),
         }
+    }
+
+    /// Checkpoints come each so many calls, and have these roots.
+    pub fn set_checkpoints(
+        &mut self,
+        alloc: Global,
+        interval: u32,
+        roots: &[Root],
+    ) -> Result<(), AllocError> {
+        self.interval = interval;
+        self.roots = Vec::new(alloc);
+        self.roots.extend_from_slice(roots)?;
+        Ok(())
+    }
+
+    /// The line of a stable place, or none where it is not that of a checkpoint.
+    fn stable_line(&self, alloc: Global, place: usize) -> Result<String, AllocError> {
+        for (at, root) in &self.roots {
+            if *at == place {
+                return format!(in alloc; "stable {place} {root}\n");
+            }
+        }
+        Ok(String::new(alloc))
     }
 
     /// Adds a call, which is run at once, and its reply. The n-th call has xid n and comes at the second n.
@@ -226,7 +271,7 @@ impl Session {
 
     /// The log over replicas of which f may fail.
     fn log(&self, alloc: Global, f: u32) -> Result<Vec<u8>, AllocError> {
-        let header = [0x42415345, 0x4c4f4731, f, 16, 1024, self.bytes];
+        let header = [0x42415345, 0x4c4f4731, f, 16, self.interval, self.bytes];
         let mut log = bytes_of(alloc, &header)?;
         log.extend_from_slice(&self.records)?;
         log.extend_from_slice(&bytes_of(alloc, &[END])?)?;
@@ -240,19 +285,28 @@ impl Session {
             points: Vec::new(alloc),
         };
         course.starts(alloc, faults)?;
-        let mut event = 0u64;
+        let mut place = 0usize;
         for reply in &self.replies {
-            event = event.saturating_add(2);
-            course.runs(alloc, f, event, reply.as_str(), faults)?;
+            place = place.saturating_add(1);
+            let stable = self.stable_line(alloc, place)?;
+            let event = (place as u64).saturating_mul(2);
+            course.runs(alloc, f, event, reply.as_str(), stable.as_str(), faults)?;
         }
         course.ends(alloc, self.replies.len(), faults)?;
         Ok(course)
     }
 
-    /// Runs the log over ten servers, of which those of the replicas have these faults. It fails unless the run prints
+    /// Runs the log over these servers, of which those of the replicas have these faults. It fails unless the run prints
     /// the lines of the votes, and has the fault points of the faults.
-    pub fn runs_with(&self, alloc: Global, f: u32, faults: &[Option<Fault>]) -> Result<(), Fail> {
-        let mut bench = bench_of(alloc, 10, faults)?;
+    fn runs_over(
+        &self,
+        alloc: Global,
+        f: u32,
+        faults: &[Option<Fault>],
+        mut bench: Bench,
+    ) -> Result<(), Fail>
+        requires { vec_len bench.servers < 2 ^ 32 }
+    {
         let (status, text) = run_bench(alloc, self.log(alloc, f)?, WHOLE, &mut bench)?;
         let course = self.course(alloc, f, faults)?;
         if status != Status::Done {
@@ -265,6 +319,63 @@ impl Session {
             return Err("other fault points".into());
         }
         Ok(())
+    }
+
+    /// The same over ten servers.
+    pub fn runs_with(&self, alloc: Global, f: u32, faults: &[Option<Fault>]) -> Result<(), Fail> {
+        self.runs_over(alloc, f, faults, bench_of(alloc, 10, faults)?)
+    }
+
+    /// The record in which the server of replica r fails at this call, if it gets so many of its kind.
+    fn failing_record(
+        &self,
+        alloc: Global,
+        f: u32,
+        faults: &[Option<Fault>],
+    ) -> Result<Option<u64>, Fail>
+        requires { f ≤ 2 }
+    {
+        let mut bench = bench_of(alloc, replicas_of(f), faults)?;
+        let (status, _) = run_bench(alloc, self.log(alloc, f)?, WHOLE, &mut bench)?;
+        if status != Status::Done {
+            return Err("not done".into());
+        }
+        match bench.downs.as_slice() {
+            [] => Ok(None),
+            [point] => Ok(Some(point.event)),
+            _ => Err("more than one fault point".into()),
+        }
+    }
+
+    /// Runs the log where the server of replica r fails at the call of a kind with this number, and at each behind it:
+    /// whether it gets so many. In which record it does is seen by a run, and all else follows from that.
+    pub fn fails_at(
+        &self,
+        alloc: Global,
+        f: u32,
+        r: usize,
+        call: SrvCall,
+        number: u64,
+    ) -> Result<bool, Fail>
+        requires few { f ≤ 2 }
+        requires replica { r < 7 }
+    {
+        let count = replicas_of(f);
+        let mut faults = [None; 7];
+        faults[r] = Some(Fault {
+            call,
+            number,
+            event: 0,
+        });
+        let event = self.failing_record(alloc, f, &faults[..count as usize])?;
+        let bench = bench_of(alloc, count, &faults[..count as usize])?;
+        faults[r] = event.map(|event| Fault {
+            call,
+            number,
+            event,
+        });
+        self.runs_over(alloc, f, &faults[..count as usize], bench)?;
+        Ok(event.is_some())
     }
 
     /// Runs the log over one replica, over four and over seven.

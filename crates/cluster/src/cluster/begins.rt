@@ -2,6 +2,7 @@
 
 ghost use Rattle.std.specs.Prelude.{◌≡◌, ◌<◌, ◌≤◌, ℕ, ◌++◌, ◌∷◌, [], OnOk, IfOk, vec_len};
 ghost use Rattle.conf_map.specs.Stands.{AreWithin};
+ghost use Rattle.partition_tree.specs.Digests.{IsTreeSize};
 ghost use Rattle.cluster.specs.Positions.{AreLater};
 ghost use Rattle.cluster.specs.OverBench.{HaveRoom};
 ghost use Rattle.cluster.specs.Begun.{BeginsAt, Begun as HaveBegun};
@@ -55,6 +56,7 @@ fn begin(
     begun: &mut Begun,
 ) -> Result<(), NoMemory>
     requires within { AreWithin limits.now }
+    requires size { IsTreeSize limits.now.n }
     requires room { HaveRoom ⟦<Srv as FileServer>⟧.state limits.now bench.old.servers.items }
     requires server { r < vec_len bench.old.servers }
     requires table { r < vec_len bench.old.tables }
@@ -92,6 +94,7 @@ pub fn begin_all(
     replicas: u32,
 ) -> Result<Begun, NoMemory>
     requires within { AreWithin limits.now }
+    requires size { IsTreeSize limits.now.n }
     requires enough { replicas ≤ vec_len bench.old.servers }
     requires room { HaveRoom ⟦<Srv as FileServer>⟧.state limits.now bench.old.servers.items }
     ensures begun { IfOk result (λ begun. HaveBegun ⟦<Srv as FileServer>⟧.state limits.now replicas

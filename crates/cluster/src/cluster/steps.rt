@@ -20,8 +20,8 @@ use server_trait::{Bench, FaultPoint, FileServer, Srv};
 use std::alloc::Global;
 
 /// Where a replica stands.
-fn end_line(r: u32, seat: Option<Replica>) -> Line
-    ensures { result ≡ end_line_of r seat }
+fn end_line(r: u32, seat: &Option<Replica>) -> Line
+    ensures { result ≡ end_line_of r seat.now }
 {
     match seat {
         Some(replica) => Line::At {
@@ -68,7 +68,7 @@ impl Cluster {
 
     /// Appends a request.
     fn ask(&mut self, time: Time, bytes: Blob) -> Result<(), NoMemory>
-        requires room { length self.old.requests.items + 1 < self.old.limits.k }
+        requires room { length self.old.requests.items + 1 < 2 ^ 32 }
         requires time { is_time time ≡ true }
         ensures { OnOk result (kept self.new ≡ record (kept self.old) {
           requests = self.old.requests.items ++ record { time = time; bytes = bytes } ∷ [];
@@ -140,7 +140,7 @@ impl Cluster {
         ensures { OnOk result (lines.new.items ≡ lines.old.items ++ end_lines 0 self.now.seats.items) }
     {
         for r in 0..self.seats.len() {
-            push_line(lines, end_line(r as u32, self.seats[r]))?;
+            push_line(lines, end_line(r as u32, &self.seats[r]))?;
         }
         Ok(())
     }

@@ -1,21 +1,38 @@
-//! Turns of replicas: each runs a request and casts its word.
+//! Turns of replicas: each runs a request and casts its words.
 
-ghost use Rattle.std.specs.Prelude.{Ok, false, ◌≡◌, ◌<◌, ◌+◌, ◌^◌, suc, ℕ, None, Some, IfOk, OnOk, length, vec_len};
+ghost use Rattle.std.specs.Prelude.{Ok, false, ◌≡◌, ◌<◌, ◌+◌, ◌^◌, suc, ℕ, None, Some, IfOk, OnOk, length, vec_len, slice_index_or};
 ghost use Rattle.cluster.specs.Positions.{AreLater};
 ghost use Rattle.cluster.specs.OverBench.{HaveArrays, HaveRoom};
 ghost use Rattle.cluster.specs.Kept.{kept};
-ghost use Rattle.cluster.specs.Casting.{Counted};
-ghost use Rattle.cluster.specs.Turned.{Going, RanRounds, IsQuietNow, round_slots, Turned, TurnStays, IsIdle};
+ghost use Rattle.cluster.specs.Turned.{Going, RanRounds, IsQuietNow, round_slots, Turned, TurnStays, IsIdle, next_in};
 
 use super::Cluster;
-use crate::lists::{copied, decision_line, push_line, push_point};
+use crate::lists::{push_line, push_point};
 use crate::seat::run_at;
 use log_format::{IdleCause, Line};
-use nfs2_types::{NoMemory, Word};
+use nfs2_types::NoMemory;
 use server_trait::{Bench, FaultPoint, FileServer, Srv, WrapErr};
 use std::alloc::Global;
 
 impl Cluster {
+    /// The place behind which a replica runs its next request, or why it has no turn.
+    fn next_of(&self, r: u32) -> Result<usize, IdleCause>
+        requires { r < vec_len self.now.seats }
+        ensures { result ≡ next_in (kept self.now) (slice_index_or self.now.seats.items r None) }
+    {
+        let Some(replica) = &self.seats[r as usize] else {
+            return Err(IdleCause::NotLive);
+        };
+        let place = replica.place;
+        if place as usize >= self.requests.len() {
+            return Err(IdleCause::AtEnd);
+        }
+        if u64::from(place) + u64::from(self.limits.k) < u64::from(self.stable) {
+            return Err(IdleCause::Behind);
+        }
+        Ok(place as usize)
+    }
+
     /// The turn of a replica at a stage of a record, or why it has none.
     pub(super) fn turn(
         &mut self,
@@ -44,13 +61,45 @@ impl Cluster {
             bench.old.servers.items bench.new.servers.items }
         ensures downs { bench.new.downs ≡ bench.old.downs }
     {
-        let Some(mut replica) = self.seats[r as usize] else {
-            return Ok(Some(IdleCause::NotLive));
-        };
-        let next = replica.place as usize;
-        if next >= self.requests.len() {
-            return Ok(Some(IdleCause::AtEnd));
+        match self.next_of(r) {
+            Err(cause) => Ok(Some(cause)),
+            Ok(next) => {
+                self.run_turn(alloc, bench, met, lines, stage, r, next)?;
+                Ok(None)
+            }
         }
+    }
+
+    /// The turn of a replica that has one, at a stage of a record: it runs its next request and casts its words.
+    fn run_turn(
+        &mut self,
+        alloc: Global,
+        bench: &mut Bench,
+        met: &mut Vec<FaultPoint>,
+        lines: &mut Vec<Line>,
+        stage: u64,
+        r: u32,
+        next: usize,
+    ) -> Result<(), NoMemory>
+        requires arrays { HaveArrays ⟦<Srv as FileServer>⟧.state (kept self.old)
+            bench.old.servers.items bench.old.tables.items }
+        requires room { HaveRoom ⟦<Srv as FileServer>⟧.state self.old.limits bench.old.servers.items }
+        requires replica { r < vec_len self.old.seats }
+        requires few { self.old.events < 2 ^ 32 }
+        requires next { next_in (kept self.old) (slice_index_or self.old.seats.items r None) ≡ Ok next }
+        ensures turned { OnOk result (Turned ⟦<Srv as FileServer>⟧.state (record { round = stage; replica = r })
+            (kept self.old) (kept self.new)
+            bench.old.servers.items bench.new.servers.items bench.old.tables.items bench.new.tables.items
+            met.old.items met.new.items lines.old.items lines.new.items) }
+        ensures stays { OnOk result (TurnStays ⟦<Srv as FileServer>⟧.state (kept self.old) (kept self.new)
+            bench.new.servers.items bench.new.tables.items) }
+        ensures servers { AreLater ⟦<Srv as FileServer>⟧.state (vec_len self.old.seats)
+            bench.old.servers.items bench.new.servers.items }
+        ensures downs { bench.new.downs ≡ bench.old.downs }
+    {
+        let Some(mut replica) = self.seats[r as usize].take() else {
+            return Ok(());
+        };
         let ran = run_at(
             alloc,
             bench,
@@ -62,10 +111,10 @@ impl Cluster {
         match ran {
             Ok(cast) => {
                 self.seats[r as usize] = Some(replica);
-                self.cast(lines, r, cast.place, cast.word)?;
+                self.vote(alloc, lines, r, cast)?;
             }
             Err(WrapErr::Down) => {
-                self.seats[r as usize] = None;
+                // Its seat stays empty.
                 push_line(lines, Line::Down { r })?;
                 push_point(
                     met,
@@ -78,7 +127,7 @@ impl Cluster {
             }
             Err(WrapErr::NoMemory) => return Err(NoMemory),
         }
-        Ok(None)
+        Ok(())
     }
 
     /// A round: the turn of each replica, in order. Whether one of them had a turn.
@@ -137,34 +186,6 @@ impl Cluster {
             if !self.round(alloc, bench, met, lines, done as u64 + 1)? {
                 return Ok(());
             }
-        }
-        Ok(())
-    }
-
-    /// Casts the word of a replica for a place. With f others that are equal it decides the place: its line is
-    /// printed, and the words for the place are forgotten. A word for a decided place is dropped.
-    fn cast(
-        &mut self,
-        lines: &mut Vec<Line>,
-        r: u32,
-        place: u32,
-        word: Word,
-    ) -> Result<(), NoMemory>
-        requires voter { r < vec_len self.old.seats }
-        ensures cast { OnOk result (Counted r place word (kept self.old) (kept self.new)
-            lines.old.items lines.new.items) }
-    {
-        if self.decisions.contains_key(&place) {
-            return Ok(());
-        }
-        self.votes.cast(r, place, copied(&word)?)?;
-        if self.votes.count(place, &word) > self.limits.f as usize {
-            push_line(lines, decision_line(place, copied(&word)?))?;
-            match self.decisions.insert(place, word) {
-                Ok(_) => {}
-                Err(_) => return Err(NoMemory),
-            }
-            self.votes.forget(place);
         }
         Ok(())
     }

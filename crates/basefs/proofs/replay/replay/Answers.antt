@@ -1,5 +1,5 @@
 use Rattle.std.proofs.Common.{arith}
-use Rattle.basefs.proofs.Replaying.{stopped_unread, stopped_bench, large_have_room, replayed_early, replayed_run}
+use Rattle.basefs.proofs.Replaying.{stopped_unread, stopped_bench, large_have_room, header_sized, replayed_early, replayed_run}
 use Rattle.basefs.proofs.replay.replay.Goals as goal
 
 pub returns-in-Err-clause-replayed : goal.returns-in-Err-clause-replayed
@@ -10,6 +10,9 @@ pub returns-in-Some-clause-replayed : goal.returns-in-Some-clause-replayed
 returns-in-Some-clause-replayed g c = replayed_early _ _ _ _ _ _ _ _
     (stopped_bench _ _ _ _ c.in-Ok.header c.in-Some.status c.in-Ok.ensures.bytes
     (rw c.deref.ensures.value at c.in-Some.ensures))
+
+pub run_log-requires-clause-sizes : goal.run_log-requires-clause-sizes
+run_log-requires-clause-sizes g c = header_sized c.in-Ok.header c.in-Ok.ensures.within
 
 pub run_log-requires-clause-enough : goal.run_log-requires-clause-enough
 run_log-requires-clause-enough g c =

@@ -1,12 +1,12 @@
-use Rattle.cluster.proofs.Positions.{changes_set, watched_at, answered_at}
+use Rattle.cluster.proofs.Positions.{changes_set, watched_at, passed_at}
 use Rattle.cluster.proofs.seat.run_at.Goals as goal
 
-pub returns-clause-answered : goal.returns-clause-answered
-returns-clause-answered g c =
+pub returns-clause-passed : goal.returns-clause-passed
+returns-clause-passed g c =
     let b = c.args.bench.now in
-    answered_at _ b.servers.items b.tables.items c.args.r c.args.limits.now c.requires.stands.1 _ _ _ _
-    c.index_mut.ensures.value c.index_mut-2.ensures.value c.run_next.result c.args.request.now
-    (rw c.as_slice.ensures at c.run_next.ensures.answered)
+    passed_at _ b.servers.items b.tables.items c.args.r c.args.limits.now c.requires.stands.1 _ _ _ _
+    c.index_mut.ensures.value c.index_mut-2.ensures.value c.run_next.result c.args.request.now c.args.replica.now
+    c.run_next.new.self (rw c.as_slice.ensures at c.run_next.ensures.passed)
 
 pub returns-clause-servers : goal.returns-clause-servers
 returns-clause-servers g c = changes_set _ _ _

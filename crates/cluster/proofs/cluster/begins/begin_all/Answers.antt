@@ -24,7 +24,7 @@ returns-in_err-begin-clause-servers g c = later_then _ _ _ _ _ c.loop-r.invarian
 
 pub loop-r-preserved : goal.loop-r-preserved
 loop-r-preserved g c = record {
-  begun = begun_more _ c.args.limits.now c.loop-r.r _ _ _ _ _ _ _ _ _ _ _ c.loop-r.invariant.begun
+  begun = begun_more _ c.args.limits.now c.requires.within.0 c.loop-r.r _ _ _ _ _ _ _ _ _ _ _ c.loop-r.invariant.begun
       c.in_ok-begin.ensures.begins;
   later = later_then _ _ _ _ _ c.loop-r.invariant.later (c.begin.ensures.servers c.args.replicas c.loop-r-test.true);
   tables = c.begin.ensures.tables ∙ c.loop-r.invariant.tables;

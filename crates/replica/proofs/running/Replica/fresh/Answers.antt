@@ -1,4 +1,4 @@
-use Rattle.replica.proofs.Answering.{empty_stands}
+use Rattle.replica.proofs.EmptyArray.{empty_stands}
 use Rattle.replica.proofs.running.Replica.fresh.Goals as goal
 
 pub returns-clause-stands : goal.returns-clause-stands

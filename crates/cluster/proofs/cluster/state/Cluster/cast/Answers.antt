@@ -10,7 +10,15 @@ returns-then-contains_key c =
     let there = some_value _ (sym c.contains_key.ensures ∙ c.if-contains_key.true) in
     record {
       cast = record {
-        same = record { limits = refl; requests = refl; seats = refl; events = refl };
+        same = record {
+          limits = refl;
+          requests = refl;
+          seats = refl;
+          roots = refl;
+          stable = refl;
+          root = refl;
+          events = refl;
+        };
         cases = Late there.0 there.1 refl refl refl;
       };
     }
@@ -24,7 +32,15 @@ returns-in-Ok c =
     c.in_ok-copied.ensures c.in_ok-cast.ensures.casts in
     record {
       cast = record {
-        same = record { limits = refl; requests = refl; seats = refl; events = refl };
+        same = record {
+          limits = refl;
+          requests = refl;
+          seats = refl;
+          roots = refl;
+          stable = refl;
+          root = refl;
+          events = refl;
+        };
         cases = Decided here (ballots c.cast.new.self) cast c.forget.ensures.forgets
             (record {
               here = c.in-Ok.ensures.updates.1;
