@@ -1,5 +1,16 @@
 pub mod AttrLaws
+pub mod ButLaws
 pub mod BytesLaws
+pub mod ChunkChanges
+pub mod DirLaws
+pub mod FreshLaws
+pub mod KeptLaws
+pub mod NameChanges
+pub mod NodeComes
+pub mod NodeGoes
 pub mod PlainLaws
+pub mod Props
 pub mod RoomLaws
+pub mod TextLaws
+pub mod WholeLaws
 pub mod WipeLaws

@@ -60,7 +60,7 @@ none_used = total-none nat_list_cmp_total (λ (n : Node). used_by n.content) bar
 none_there : len bare.nodes ≡ 0
 none_there = ap len no_nodes ∙ len-empty (slice_cmp nat_cmp) Node
 
-nothing_indexed : IsIndexed bare none_kept
+pub nothing_indexed : IsIndexed bare none_kept
 nothing_indexed = record {
   nodes = λ q eight. matches_by bare (handle_of q) (node_at bare (handle_of q)) None (get none_kept.nodes q) None
       (none_at (handle_of q)) (get-empty (slice_cmp nat_cmp) q) tt;

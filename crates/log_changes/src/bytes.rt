@@ -2,12 +2,13 @@
 
 ghost use Rattle.std.specs.Prelude.{◌≡◌, ◌≤◌, ◌+◌, ◌-◌, Some, length, max, take, drop, option_map, IfOk, OnOk, IsSome, IsSomeAnd};
 ghost use Rattle.server_trait.specs.Calls.{Wrote};
-ghost use Rattle.server_trait.specs.Tree.{bytes_at, used};
+ghost use Rattle.nfs2_types.specs.Bytes.{resized};
+ghost use Rattle.server_trait.specs.Tree.{bytes_at, edited, text_at, used, with_bytes};
 ghost use Rattle.log_tree.specs.Held.{handle_of};
 ghost use Rattle.log_changes.specs.Kept.{IsKept, Changes, log_tree};
 
 use crate::tree::LogTree;
-use log_files::{read_bytes, write_bytes};
+use log_files::{read_bytes, resize_bytes, write_bytes};
 use log_records::NodeId;
 use outside::{Medium, MediumErr};
 
@@ -27,6 +28,23 @@ impl<M: Medium> LogTree<M> {
         };
         let bytes = read_bytes(self.alloc, &mut self.store, id, info.size, offset, count)?;
         Ok(bytes)
+    }
+
+    /// The text of a link.
+    pub fn read_text(&mut self, id: &NodeId) -> Result<Vec<u8>, MediumErr>
+        requires kept { IsKept M.content M.size self.old }
+        requires link { IsSome (text_at (log_tree M.content M.size self.old) (handle_of id.now)) }
+        ensures text { let text = text_at (log_tree M.content M.size self.old) (handle_of id.now) in
+            IfOk result (λ bytes. text ≡ Some bytes.items) }
+        ensures tree { log_tree M.content M.size self.new ≡ log_tree M.content M.size self.old }
+        ensures kept { IsKept M.content M.size self.new }
+        ensures changes { Changes M.size M.faults self.old self.new result }
+    {
+        let Some(info) = self.index.get(id) else {
+            unreachable!();
+        };
+        let text = read_bytes(self.alloc, &mut self.store, id, info.size, 0, info.size)?;
+        Ok(text)
     }
 
     /// Puts bytes from the front of a piece, at least one, at an offset of a file that lies among its bytes or at their
@@ -53,5 +71,25 @@ impl<M: Medium> LogTree<M> {
         let size = info.size.max(offset + count);
         self.index.resize(id, size)?;
         Ok(count)
+    }
+
+    /// Cuts a file, or fills it with zeros.
+    pub fn set_size(&mut self, id: &NodeId, size: u32) -> Result<(), MediumErr>
+        requires kept { IsKept M.content M.size self.old }
+        requires end { size ≤ 8388608 }
+        requires room { let tree = log_tree M.content M.size self.old in
+            IsSomeAnd (bytes_at tree (handle_of id.now))
+            (λ b. (used tree - length b) + size ≤ self.old.limits.bytes) }
+        ensures sized { let tree = log_tree M.content M.size in
+            OnOk result (tree self.new ≡ edited (tree self.old) (handle_of id.now) (with_bytes (resized size))) }
+        ensures kept { OnOk result (IsKept M.content M.size self.new) }
+        ensures changes { Changes M.size M.faults self.old self.new result }
+    {
+        let Some(info) = self.index.get(id) else {
+            unreachable!();
+        };
+        resize_bytes(self.alloc, &mut self.store, id, info.size, size)?;
+        self.index.resize(id, size)?;
+        Ok(())
     }
 }

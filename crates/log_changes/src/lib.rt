@@ -3,9 +3,13 @@
 
 mod attr;
 mod bytes;
+mod names;
+mod nodes;
 #[cfg(test)]
 mod tests;
+mod text;
 mod tree;
+mod whole;
 mod wipe;
 
 pub use tree::LogTree;

@@ -12,10 +12,10 @@ use std::alloc::Global;
 /// A tree on a log, and what is kept of it in memory. Where a call answers an error, it is not known what is left.
 #[derive(Drop)]
 pub struct LogTree<M: Medium> {
-    pub(crate) alloc: Global,
-    pub(crate) store: LogStore<M>,
-    pub(crate) index: LogIndex,
-    pub(crate) limits: ServerLimits,
+    pub alloc: Global,
+    pub store: LogStore<M>,
+    pub index: LogIndex,
+    pub limits: ServerLimits,
 }
 
 impl<M: Medium> LogTree<M> {

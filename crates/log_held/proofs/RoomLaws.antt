@@ -1,6 +1,6 @@
 -- How many records a sound tree has: those of each node, counted by the keys that they may have.
 use Rattle.std.proofs.Common.{inl, inr, ◌≡◌, ◌∙◌, ◌⊎◌, ◌+◌, ◌*◌, ◌<◌, ◌≤◌, ℕ, suc, zero, true, false, cond, List, [], ◌∷◌, length, take, drop, Option, Some, None, IsSome, refl, sym, ap, subst, arith}
-use Rattle.std.specs.Prelude.{option_map}
+use Rattle.std.specs.Prelude.{max, option_map}
 use Rattle.std.proofs.lemmas.List.{take_at, take_all}
 use Rattle.std.specs.Ordering.{eq_by_cmp}
 use Rattle.std.specs.FinMap.{len, entries, get-entries, len-entries, find as find_entry}
@@ -9,6 +9,7 @@ use Rattle.nfs2_types.specs.declared.fattr.Kind.{Kind}
 use Rattle.nfs2_types.specs.declared.fattr.Kind.TheVariants.{File, Dir, Link}
 use Rattle.server_trait.specs.Tree.{Tree, Node, used, used_by}
 use Rattle.server_trait.specs.Sums.{sum_values, total}
+use Rattle.server_trait.specs.declared.server.ServerLimits.{ServerLimits}
 use Rattle.server_trait.proofs.TreeLaws.{one_or_not, same-keys}
 use Rattle.log_segments.specs.Newest.{find}
 use Rattle.log_segments.specs.Record.{key_of}
@@ -22,7 +23,7 @@ use Rattle.log_store.proofs.StoreLaws.{name_at}
 use Rattle.log_files.specs.Chunked.{chunks_of}
 use Rattle.log_files.proofs.ChunkLaws.{below_or_not}
 use Rattle.log_held.specs.Sound.{kind_at, IsLeaf, ArePlaced, AreOnce}
-use Rattle.log_held.specs.Room.{LeavesRoom}
+use Rattle.log_held.specs.Room.{IsLarge, LeavesRoom}
 use Rattle.log_held.proofs.Lists.{Each, each_found, each_entry}
 use Rattle.log_held.proofs.Chunks.{none_some}
 use Rattle.log_held.proofs.Nodes.{IsFoundNode, node_found, kind_found}
@@ -265,31 +266,59 @@ owned live h k r is =
     leaf_some None h = absurd h
     leaf_some (Some k) h = refl
 
-has_room : HasRoom
-has_room nodes names chunks bytes most_nodes most_bytes blocks half budget = omega arith
+pub room_law : HasRoom
+room_law nodes names chunks bytes most_nodes most_bytes blocks half budget = omega arith
 
 used_sum : (t : Tree) → used t ≡ sum_values (λ (n : Node). used_by n.content) (entries t.nodes)
 unfolding used total
 used_sum t = refl
 
-pub leaves_room : LeavesRoom
-leaves_room limits live blocks once s large =
+-- names, chunks and bytes of all nodes
+pub record AreCounted (live : Records) : Type 0 where
+  pub names : ℕ
+  pub chunks : ℕ
+  pub bytes : ℕ
+  pub all : length live ≤ len (tree_of live).nodes + names + chunks
+  pub used_is : bytes + 512 * names ≡ used (tree_of live)
+  pub full : 480 * chunks ≤ bytes + 479 * len (tree_of live).nodes
+
+pub counted : (live : Records) → AreOnce live → ArePlaced live → AreCounted live
+counted live once placed =
     let T = tree_of live in
     let es = entries T.nodes in
-    let all = counts_all es live (each_found (HasOwner es) live once (owned live s.placed)) in
+    let all = counts_all es live (each_found (HasOwner es) live once (owned live placed)) in
     let c = costs es live (each_entry (λ e. IsCost (count_of (take 8 e.0) live) e.1) T.nodes
-    (λ q n is. cost live once s.placed q n (node_found live q n is))) in
-    let few = s.few_nodes in
-    let bytes = s.few_bytes in
+    (λ q n is. cost live once placed q n (node_found live q n is))) in
     let size = len-entries T.nodes in
     let uses = used_sum T in
-    let budget : IsBudget (len T.nodes) c.names c.chunks c.bytes limits.nodes limits.bytes blocks (half_size blocks) =
+    record {
+      names = c.names;
+      chunks = c.chunks;
+      bytes = c.bytes;
+      all = omega (arith, c.all);
+      used_is = omega (arith, c.used_is);
+      full = omega (arith, c.full);
+    }
+
+-- records that have their places leave room, where their tree is within the limits
+pub leaves_room_placed : (limits : ServerLimits) (live : Records) (blocks : ℕ) → AreOnce live → ArePlaced live
+    → len (tree_of live).nodes ≤ max limits.nodes 1 → used (tree_of live) ≤ limits.bytes → IsLarge limits blocks
+    → length live + 61 + 2 * limits.nodes ≤ half_size blocks
+leaves_room_placed limits live blocks once placed few bytes large =
+    let c = counted live once placed in
+    let budget : IsBudget (len (tree_of live).nodes) c.names c.chunks c.bytes limits.nodes limits.bytes blocks
+    (half_size blocks) =
     record {
       few_nodes = few;
       few_bytes = omega (arith, c.used_is);
-      full_chunks = omega (arith, c.full);
+      full_chunks = c.full;
       blocks_are = large;
       half_is = refl;
     } in
-    let room = has_room (len T.nodes) c.names c.chunks c.bytes limits.nodes limits.bytes blocks (half_size blocks) budget in
+    let room = room_law (len (tree_of live).nodes) c.names c.chunks c.bytes limits.nodes limits.bytes blocks
+    (half_size blocks) budget in
     omega (arith, c.all)
+
+pub leaves_room : LeavesRoom
+leaves_room limits live blocks once s large =
+    leaves_room_placed limits live blocks once s.placed s.few_nodes s.few_bytes large

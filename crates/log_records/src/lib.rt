@@ -12,5 +12,5 @@ mod write;
 pub use key::{NodeId, chunk_key, name_key, node_key};
 pub use laws::{child_again, chunk_again, node_again, parts_again};
 pub use node::NodeRecord;
-pub use read::{read_child, read_chunk, read_node};
+pub use read::{is_of_name, is_of_node, read_child, read_chunk, read_id, read_node};
 pub use write::{CHUNK_MAX, chunk_record, gone_record, name_record, node_record};

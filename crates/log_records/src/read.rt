@@ -1,6 +1,7 @@
 //! What records say.
 
-ghost use Rattle.std.specs.Prelude.{◌≡◌, ◌≤◌, ◌+◌, IfOk, length};
+ghost use Rattle.std.specs.Prelude.{◌≡◌, ◌==◌, ◌≤◌, ◌+◌, IfOk, length, get_or, take, drop};
+ghost use Rattle.log_segments.specs.Record.{key_of};
 ghost use Rattle.log_records.specs.Layout.{key_size, kind_of, word_at, value_of, node_in, child_in, chunk_in};
 
 use crate::key::NodeId;
@@ -8,6 +9,32 @@ use crate::node::NodeRecord;
 use nfs2_types::{Kind, NoMemory};
 use outside::Block;
 use std::alloc::Global;
+
+/// Whether a record is about a node itself.
+pub fn is_of_node(block: &Block) -> bool
+    requires { 1 ≤ key_size block.now }
+    ensures { result ≡ (get_or (key_of block.now) 0 0 == 1) }
+{
+    block[3] == 1
+}
+
+/// Whether a record is about a name.
+pub fn is_of_name(block: &Block) -> bool
+    requires { 1 ≤ key_size block.now }
+    ensures { result ≡ (get_or (key_of block.now) 0 0 == 2) }
+{
+    block[3] == 2
+}
+
+/// The id of the node that a record is about, or whose name or chunk it is about.
+pub fn read_id(block: &Block) -> NodeId
+    requires { 9 ≤ key_size block.now }
+    ensures { result ≡ take 8 (drop 1 (key_of block.now)) }
+{
+    let mut id = [0; 8];
+    id.copy_from_slice(&block[4..12]);
+    id
+}
 
 /// The value of a record.
 fn value(block: &Block) -> &[u8]

@@ -3,6 +3,7 @@ pub mod Copies
 pub mod Ends
 pub mod Finds
 pub mod Halves
+pub mod LiveAt
 pub mod LiveLaws
 pub mod MapViews
 pub mod Puts

@@ -1,5 +1,5 @@
 -- Of each key the newest record, in a list of records with the oldest first.
-use Rattle.std.specs.Prelude.{◌+◌, ◌++◌, ℕ, List, [], ◌∷◌, Bool, true, false, Option, Some, None, cond, bytes_eq}
+use Rattle.std.specs.Prelude.{◌≡◌, ◌+◌, ◌++◌, ℕ, List, [], ◌∷◌, Bool, true, false, Option, Some, None, cond, drop, bytes_eq}
 use Rattle.log_segments.specs.Record.{is_gone, key_of}
 
 -- a record of the list has this key
@@ -29,6 +29,11 @@ after records r = without (key_of r) records ++ standing r
 abbrev pub find : List ℕ → List (List ℕ) → Option (List ℕ)
 find key [] = None
 find key (r ∷ rs) = cond (bytes_eq (key_of r) key) (Some r) (find key rs)
+
+-- the live records from a place on are this one, if there is one, and those behind the place
+abbrev pub IsLiveAt : List (List ℕ) → ℕ → Option (List ℕ) → Type 0
+IsLiveAt records place None = live (drop place records) ≡ live (drop (place + 1) records)
+IsLiveAt records place (Some r) = live (drop place records) ≡ r ∷ live (drop (place + 1) records)
 
 -- where the newest record of a key stands, if it stands: `place` before the records of the list, of which the first
 -- stands at `at`

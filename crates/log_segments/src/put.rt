@@ -1,14 +1,15 @@
 //! The records of keys.
 
-ghost use Rattle.std.specs.Prelude.{◌≡◌, ◌+◌, ◌<◌, false, length, IfOk, OnOk, OnErr};
+ghost use Rattle.std.specs.Prelude.{◌≡◌, ◌+◌, ◌<◌, false, length, IfOk, IfSome, OnOk, OnErr};
 ghost use Rattle.outside.specs.Causes.{WriteHasCause};
 ghost use Rattle.log_segments.specs.Failures.{MayPut};
-ghost use Rattle.log_segments.specs.Newest.{after, find};
-ghost use Rattle.log_segments.specs.Record.{is_end};
-ghost use Rattle.log_segments.specs.Segments.{half_of, live_of, medium_of, HasRoom, IsLog};
+ghost use Rattle.log_segments.specs.Newest.{IsLiveAt, after, find};
+ghost use Rattle.log_segments.specs.Record.{is_end, is_gone};
+ghost use Rattle.log_segments.specs.Segments.{half_of, live_of, medium_of, records_of, HasRoom, IsLog};
 
 use crate::key::Key;
 use crate::log::Log;
+use crate::record::key_of;
 use outside::{Block, Medium, MediumErr};
 
 impl<M: Medium> Log<M> {
@@ -62,5 +63,24 @@ impl<M: Medium> Log<M> {
             }
             None => Ok(None),
         }
+    }
+
+    /// The record at a place of the current half, where it is the newest of its key and stands.
+    pub fn live_at(&mut self, place: u32) -> Result<Option<Block>, MediumErr>
+        requires log { IsLog M.content M.size self.old }
+        requires within { place < length (records_of M.content M.size self.old) }
+        ensures live { IfOk result (IsLiveAt (records_of M.content M.size self.old) place) }
+        ensures stands { IfOk result (λ found. IfSome found (λ block. is_gone block ≡ false)) }
+        ensures content { M.content (medium_of self.new) ≡ M.content (medium_of self.old) }
+        ensures size { M.size (medium_of self.new) ≡ M.size (medium_of self.old) }
+        ensures log { IsLog M.content M.size self.new }
+        ensures cause { WriteHasCause (M.faults (medium_of self.old)) (M.faults (medium_of self.new)) result }
+    {
+        let block = self.read(place)?;
+        let key = key_of(self.alloc, &block)?;
+        if self.places.is_at(&key, place) {
+            return Ok(Some(block));
+        }
+        Ok(None)
     }
 }

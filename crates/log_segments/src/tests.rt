@@ -67,6 +67,20 @@ fn value_of<M: Medium>(alloc: Global, log: &mut Log<M>, key: u8) -> Result<Optio
     }
 }
 
+/// How many records are live, place by place.
+fn live_count<M: Medium>(log: &mut Log<M>) -> Result<u32, MediumErr>
+    requires { IsLog M.content M.size log.old }
+    ensures { IsLog M.content M.size log.new }
+{
+    let mut count = 0;
+    for place in 0..log.len() {
+        if log.live_at(place)?.is_some() {
+            count += 1;
+        }
+    }
+    Ok(count)
+}
+
 #[test]
 fn the_newest_of_each_key_stays(rt: HostRuntime) -> Result<(), Fail> {
     let alloc = rt.alloc();
@@ -77,5 +91,6 @@ fn the_newest_of_each_key_stays(rt: HostRuntime) -> Result<(), Fail> {
     assert_eq!(rt; value_of(alloc, &mut log, 2)?, Some(197));
     assert_eq!(rt; value_of(alloc, &mut log, 3)?, None);
     assert_eq!(rt; value_of(alloc, &mut log, 4)?, Some(199));
+    assert_eq!(rt; live_count(&mut log)?, 4);
     Ok(())
 }

@@ -7,7 +7,7 @@ use Rattle.outside.specs.declared.medium.MediumErr.{MediumErr}
 use Rattle.server_trait.specs.Tree.{Node, Tree, Content, node_at, with_node, edited, with_bytes}
 use Rattle.log_segments.specs.Failures.{MayPut}
 use Rattle.log_segments.specs.Newest.{find}
-use Rattle.log_segments.specs.Segments.{IsLog, live_of, half_of, medium_of as log_medium}
+use Rattle.log_segments.specs.Segments.{IsLog, live_of, half_of, records_of, medium_of as log_medium}
 use Rattle.log_records.specs.Layout.{node_key, chunk_key, value_of, node_in, chunk_in}
 use Rattle.log_records.specs.declared.node.NodeRecord.{NodeRecord}
 use Rattle.log_tree.specs.Held.{Records, handle_of, bytes_from, bytes_of, content_of, tree_of}
@@ -18,7 +18,10 @@ module _ {M : Type 0} (content : M → ℕ → List ℕ) (size : M → ℕ) wher
   abbrev pub IsStore : LogStore M → Type 0
   IsStore store = IsLog content size store.log
 
-  -- the live records
+  -- the records of the log, the oldest first, and the live ones among them
+  abbrev pub records_in : LogStore M → Records
+  records_in store = records_of content size store.log
+
   abbrev pub live_in : LogStore M → Records
   live_in store = live_of content size store.log
 

@@ -1,11 +1,11 @@
 //! A store on a log.
 
-ghost use Rattle.std.specs.Prelude.{◌≡◌, ◌≤◌, false, [], length, OnOk, IfOk, IfSome};
+ghost use Rattle.std.specs.Prelude.{◌≡◌, ◌<◌, ◌≤◌, false, [], length, OnOk, IfOk, IfSome};
 ghost use Rattle.outside.specs.Causes.{WriteHasCause};
-ghost use Rattle.log_segments.specs.Newest.{after, find};
-ghost use Rattle.log_segments.specs.Record.{is_end};
+ghost use Rattle.log_segments.specs.Newest.{IsLiveAt, after, find};
+ghost use Rattle.log_segments.specs.Record.{is_end, is_gone};
 ghost use Rattle.log_segments.specs.Segments.{half_size};
-ghost use Rattle.log_store.specs.Store.{IsStore, HasRoom, Reads, Writes, live_in, medium_of};
+ghost use Rattle.log_store.specs.Store.{IsStore, HasRoom, Reads, Writes, live_in, medium_of, records_in};
 
 use log_segments::{Key, Log};
 use outside::{Block, Medium, MediumErr};
@@ -59,6 +59,27 @@ impl<M: Medium> LogStore<M> {
     {
         self.log.replay()?;
         Ok(())
+    }
+
+    /// How many records the log has, those among them that later ones replace.
+    pub fn len(&self) -> u32
+        requires { IsStore M.content M.size self.now }
+        ensures { result ≡ length (records_in M.content M.size self.now) }
+    {
+        self.log.len()
+    }
+
+    /// The record at a place of the log, of which the oldest is at 0, where it is the newest of its key and stands.
+    pub fn live_at(&mut self, place: u32) -> Result<Option<Block>, MediumErr>
+        requires store { IsStore M.content M.size self.old }
+        requires within { place < length (records_in M.content M.size self.old) }
+        ensures live { IfOk result (IsLiveAt (records_in M.content M.size self.old) place) }
+        ensures stands { IfOk result (λ found. IfSome found (λ block. is_gone block ≡ false)) }
+        ensures whole { IfOk result (λ found. IfSome found (λ block. length block ≡ 512)) }
+        ensures reads { Reads M.content M.size M.faults self.old self.new result }
+    {
+        let found = self.log.live_at(place)?;
+        Ok(found)
     }
 
     /// Puts a record.

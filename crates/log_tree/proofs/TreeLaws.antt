@@ -58,7 +58,7 @@ content_of-same live new id File bytes names = ap Content.BytesOf bytes
 content_of-same live new id Dir bytes names = ap Content.NamesOf names
 content_of-same live new id Link bytes names = ap Content.TextOf bytes
 
-node_of-same : (live new : Records) (x : List ℕ) → bytes_of new (id_of x) ≡ bytes_of live (id_of x)
+pub node_of-same : (live new : Records) (x : List ℕ) → bytes_of new (id_of x) ≡ bytes_of live (id_of x)
     → names_of new (id_of x) ≡ names_of live (id_of x)
     → node_of new x ≡ node_of live x
 node_of-same live new x bytes names =
@@ -120,7 +120,7 @@ back_is q k h =
     ] refl h
 
 -- a node that no record touches
-kept_node : (live new : Records) (q : List ℕ) → ((k : List ℕ) → IsBack q k → find k new ≡ find k live)
+pub kept_node : (live new : Records) (q : List ℕ) → ((k : List ℕ) → IsBack q k → find k new ≡ find k live)
     → ((k x : List ℕ) → IsBack q k → find k live ≡ Some x → node_of new x ≡ node_of live x)
     → get (tree_of new).nodes q ≡ get (tree_of live).nodes q
 kept_node live new q keys nodes =

@@ -65,7 +65,7 @@ returns-clause-wrote g c =
     c.in_ok-resize.ensures in
     (write_done t.limits (live t.store) (live c.write_bytes.new.store) a.id.now b.0 (memory_of t.index)
     (memory_of c.resize.new.self) c.in-Some.info a.offset c.in_ok-count.count a.piece.now c.requires.kept.sound
-    c.requires.kept.indexed c.told-id b.1 (sym c.in-Some.is ∙ c.get.ensures) b.2 c.requires.end fits
+    c.requires.kept.indexed c.told-id b.1 (sym c.in-Some.is ∙ c.get.ensures) b.2 fits
     c.in_ok-count.ensures.wrote sets).wrote
 
 pub returns-clause-kept : goal.returns-clause-kept
@@ -88,7 +88,7 @@ returns-clause-kept g c =
     c.in_ok-resize.ensures in
     let done = write_done t.limits (live t.store) (live c.write_bytes.new.store) a.id.now b.0 (memory_of t.index)
     (memory_of c.resize.new.self) c.in-Some.info a.offset c.in_ok-count.count a.piece.now c.requires.kept.sound
-    c.requires.kept.indexed c.told-id b.1 (sym c.in-Some.is ∙ c.get.ensures) b.2 c.requires.end fits
+    c.requires.kept.indexed c.told-id b.1 (sym c.in-Some.is ∙ c.get.ensures) b.2 fits
     c.in_ok-count.ensures.wrote sets in
     let writes = c.in_ok-count.ensures.writes in
     record {

@@ -1,0 +1,5 @@
+pub mod BelowLaws
+pub mod ErrorLaws
+pub mod FoundLaws
+pub mod NameLaws
+pub mod StateLaws

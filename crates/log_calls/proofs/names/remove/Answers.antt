@@ -1,0 +1,86 @@
+use Rattle.std.proofs.Common.{inl, inr, ◌≡◌, ◌≢◌, ◌∙◌, ◌+◌, ◌-◌, ◌<◌, List, ℕ, None, Some, IsSome, length, refl, sym, ap, subst, arith}
+use Rattle.std.proofs.lemmas.Result.{err_from_is_err_and}
+use Rattle.std.specs.Prelude.{IsSomeAnd}
+use Rattle.std.specs.FinMap.{empty, len}
+use Rattle.server_trait.specs.Step.{HasNames, IsNo, LacksName}
+use Rattle.server_trait.specs.Calls.{IsDir, Link, LinkErr, Made, Make, MakeErr, Remove, Removed, RemoveErr, Rmdir, RmdirErr}
+use Rattle.server_trait.specs.Tree.{Tree, Names, let_go, named, names_at, names_in, node_at, target, unnamed, used}
+use Rattle.server_trait.specs.declared.server.ServerLimits.{ServerLimits}
+use Rattle.server_trait.specs.declared.server.SrvErr.TheVariants.{Exists, Full, NoEnt, NotDir, NotEmpty, WrongKind}
+use Rattle.server_trait.proofs.NameSoftLaws.{link_soft, remove_soft, rmdir_soft}
+use Rattle.server_trait.proofs.SoftLaws.{make_soft}
+use Rattle.server_trait.proofs.TreeLaws.{is_some_and}
+use Rattle.log_tree.specs.Held.{handle_of}
+use Rattle.log_changes.specs.Kept.{IsKept, log_live, log_medium, log_tree}
+use Rattle.log_changes.specs.Made.{IsBareDir, made_content}
+use Rattle.log_calls.specs.State.{Does}
+use Rattle.log_calls.proofs.NameLaws.{bare_by_len, dir_known, empty_by_len, has_name, lacks_name, leads_to, leaf_known, not_bare}
+use Rattle.log_calls.proofs.StateLaws.{did, ended, fell, if_ok, off_after, off_answer, ok_answer, on_ok, stayed}
+use Rattle.log_calls.proofs.names.remove.Goals as goal
+
+pub returns-in_default : goal.returns-in_default
+returns-in_default g c =
+    let content = g.M.Medium.content in
+    let size = g.M.Medium.size in
+    let faults = g.M.Medium.faults in
+    let a = c.args in
+    let t = a.tree.now in
+    let mid = c.look_up.new.tree in
+    let tree = log_tree content size t in
+    let D = a.dir.now in
+    let nm = a.name.now in
+    let H = handle_of c.in_ok-within.within.id in
+    let dir = c.in_ok-within.ensures in
+    let up = c.in_ok-node.ensures in
+    let child = c.in_ok-node.field-0 in
+    stayed content size faults (λ s. Remove s D nm) (λ t _ after. Removed t D nm after) (λ v e. RemoveErr D nm v e) t mid (λ r b k. k) c.requires.kept NoEnt up.1
+    (lacks_name tree D H nm child dir.0 up.0 c.in_default.is dir.1) (λ b. b)
+
+pub returns-in-Some-names_in : goal.returns-in-Some-names_in
+returns-in-Some-names_in g c =
+    let content = g.M.Medium.content in
+    let size = g.M.Medium.size in
+    let faults = g.M.Medium.faults in
+    let a = c.args in
+    let t = a.tree.now in
+    let mid = c.look_up.new.tree in
+    let tree = log_tree content size t in
+    let D = a.dir.now in
+    let nm = a.name.now in
+    let H = handle_of c.in_ok-within.within.id in
+    let dir = c.in_ok-within.ensures in
+    let up = c.in_ok-node.ensures in
+    let child = c.in_ok-node.field-0 in
+    let C = handle_of c.in-Some.node in
+    let leads = leads_to tree D H nm child dir.0 up.0 c.in-Some.node c.in-Some.is in
+    stayed content size faults (λ s. Remove s D nm) (λ t _ after. Removed t D nm after) (λ v e. RemoveErr D nm v e) t mid (λ r b k. k) c.requires.kept WrongKind up.1
+    (is_some_and (IsDir tree) leads (dir_known (log_tree content size mid) tree C c.in-Some-names_in.field-0 up.1.tree_is
+    c.in-Some-names_in.ensures)) (λ b. b)
+
+pub returns : goal.returns
+returns g c =
+    let content = g.M.Medium.content in
+    let size = g.M.Medium.size in
+    let faults = g.M.Medium.faults in
+    let a = c.args in
+    let t = a.tree.now in
+    let mid = c.look_up.new.tree in
+    let tree = log_tree content size t in
+    let D = a.dir.now in
+    let nm = a.name.now in
+    let H = handle_of c.in_ok-within.within.id in
+    let dir = c.in_ok-within.ensures in
+    let up = c.in_ok-node.ensures in
+    let child = c.in_ok-node.field-0 in
+    let C = handle_of c.in-Some.node in
+    let leads = leads_to tree D H nm child dir.0 up.0 c.in-Some.node c.in-Some.is in
+    let new = c.take_out.new.self in
+    subst (λ r. Does content size faults (λ s. Remove s D nm) t r new) (sym c.answered.ensures)
+    (ended content size faults (λ s. Remove s D nm) (λ t _ after. Removed t D nm after) (λ v e. RemoveErr D nm v e) t new (λ r b k. k) c.requires.kept mid up.1 c.take_out.result c.take_out.ensures.changes
+    c.take_out.ensures.kept
+    (λ x e. is_some_and (λ h. Some (log_tree content size new) ≡ Some (let_go (unnamed tree D nm) h)) leads
+    (ap Some (on_ok (log_tree content size new ≡ let_go (unnamed (log_tree content size mid) H nm) C) c.take_out.result x
+    c.take_out.ensures.removed e
+    ∙ (ap (λ v. let_go (unnamed v H nm) C) up.1.tree_is ∙ ap (λ d. let_go (unnamed tree d nm) C) (sym dir.0)))))
+    (remove_soft tree D nm C leads (leaf_known t.limits (log_live content size t) (log_tree content size mid) D nm C
+    c.requires.kept.sound leads up.1.tree_is c.in_default-names_in.ensures)))
