@@ -1,5 +1,5 @@
 -- A medium whose inodes a server keeps tables of holds a tree.
-use Rattle.std.proofs.Common.{◌≡◌, ◌≢◌, ℕ, zero, suc, ◌*◌, ◌<◌, ◌≤◌, List, [], ◌∷◌, Bool, length, slice_get, Option, None, Some, refl, sym, ap, subst, ◌∙◌, inl, inr, arith}
+use Rattle.std.proofs.Common.{◌≡◌, ◌≢◌, ℕ, zero, suc, ◌<◌, ◌≤◌, List, [], ◌∷◌, Bool, slice_get, Option, None, Some, refl, sym, ap, subst, ◌∙◌, inl, inr, arith}
 use Rattle.std.specs.Prelude.{bytes_eq, sum_by}
 use Rattle.std.specs.Option.{option_map}
 use Rattle.std.specs.FinMap.{get, remove}
@@ -12,7 +12,6 @@ use Rattle.pointer_tree.specs.declared.node.Area.{Area}
 use Rattle.server_trait.specs.Sums.{total}
 use Rattle.server_trait.specs.Tree.{Tree, Node, Names, used, NamesOf, node_at, names_in, links, one_if, unnamed, with_names, used_by}
 use Rattle.server_trait.specs.declared.server.ServerLimits.{ServerLimits}
-use Rattle.server_trait.specs.declared.server.TheConstants.{NAME_BYTES}
 use Rattle.server_trait.proofs.TreeLaws.{bytes_or_not, some_none, some_same, target-node, links-some, get-remove_other, node_at-edited_same}
 use Rattle.tree_laws.proofs.CountChanges.{links-unnamed}
 use Rattle.inode_dirs.specs.Files.{File, body_of, entry_of, slots_of}
@@ -28,6 +27,7 @@ use Rattle.inode_tree.specs.Tables.{Tables}
 use Rattle.inode_tree.specs.Sound.{IsTied, IsSound, the_tree}
 use Rattle.inode_tree.proofs.TiedLaws.{node-file, index-dir, kind-file, led-place, some_entry}
 use Rattle.inode_tree.proofs.SizeLaws.{names-dir, total-nodes}
+use Rattle.inode_mount.proofs.UsedLaws.{uses_as, used-as}
 
 bytes_same : (a : List ℕ) → one_if (bytes_eq a a) ≡ 1
 bytes_same a = ap one_if ((bytes_eq-Decides a a).1 refl)
@@ -37,12 +37,12 @@ abbrev numbers : ℕ → List ℕ
 numbers zero = []
 numbers (suc n) = n ∷ numbers n
 
-sums_most : (n : ℕ) (f g : ℕ → ℕ) → ((i : ℕ) → i < n → f i ≤ g i) → sum_to n f ≤ sum_by g (numbers n)
+sums_same : (n : ℕ) (f g : ℕ → ℕ) → ((i : ℕ) → i < n → f i ≡ g i) → sum_to n f ≡ sum_by g (numbers n)
 unfolding sum_to
-sums_most zero f g most = omega arith
-sums_most (suc n) f g most =
-    let rest = sums_most n f g (λ i l. most i (omega (arith, l))) in
-    let here = most n (omega arith) in
+sums_same zero f g same = refl
+sums_same (suc n) f g same =
+    let rest = sums_same n f g (λ i l. same i (omega (arith, l))) in
+    let here = same n (omega arith) in
     let sum = sum_by-cons g n (numbers n) in
     omega (arith, rest, here, sum)
 
@@ -134,26 +134,15 @@ module _ (n : ℕ) (files : ℕ → Option File) (t : Tables) (tied : IsTied n f
 
   -- what an inode uses is what its node does
   used_by_file : (i : ℕ) (x : File) → files i ≡ Some x →
-      used_at (Some x) ≤ used_by (content_of t.handle (body_of x.kind x.bytes))
-  used_by_file i x is = by x.kind refl
+      used_at (Some x) ≡ used_by (content_of t.handle (body_of x.kind x.bytes))
+  used_by_file i x is = used-as x ∙ by x.kind refl
     where
-      by : (k : Kind) → x.kind ≡ k → used_at (Some x) ≤ used_by (content_of t.handle (body_of x.kind x.bytes))
-      by AFile e = subst (λ (k : Kind). (elim k as (λ _. ℕ) [
-        | AFile ↦ length x.bytes
-        | Dir ↦ NAME_BYTES * length (slots_of x)
-        | Link ↦ length x.bytes
-      ]) ≤ used_by (content_of t.handle (body_of k x.bytes))) (sym e) (omega arith)
-      by Dir e = subst (λ (k : Kind). (elim k as (λ _. ℕ) [
-        | AFile ↦ length x.bytes
-        | Dir ↦ NAME_BYTES * length (slots_of x)
-        | Link ↦ length x.bytes
-      ]) ≤ used_by (content_of t.handle (body_of k x.bytes))) (sym e)
+      by : (k : Kind) → x.kind ≡ k →
+          uses_as x.kind x.bytes ≡ used_by (content_of t.handle (body_of x.kind x.bytes))
+      by AFile e = subst (λ (k : Kind). uses_as k x.bytes ≡ used_by (content_of t.handle (body_of k x.bytes))) (sym e) refl
+      by Link e = subst (λ (k : Kind). uses_as k x.bytes ≡ used_by (content_of t.handle (body_of k x.bytes))) (sym e) refl
+      by Dir e = subst (λ (k : Kind). uses_as k x.bytes ≡ used_by (content_of t.handle (body_of k x.bytes))) (sym e)
           (let names = names-dir n files t tied i x is e in let slots = length-slots_of x in omega (arith, names, slots))
-      by Link e = subst (λ (k : Kind). (elim k as (λ _. ℕ) [
-        | AFile ↦ length x.bytes
-        | Dir ↦ NAME_BYTES * length (slots_of x)
-        | Link ↦ length x.bytes
-      ]) ≤ used_by (content_of t.handle (body_of k x.bytes))) (sym e) (omega arith)
 
   -- what the node of an inode uses, if it is used
   abbrev node_uses : ℕ → ℕ
@@ -166,26 +155,25 @@ module _ (n : ℕ) (files : ℕ → Option File) (t : Tables) (tied : IsTied n f
   unfolding used
   used_is = refl
 
-  all_used : sum_to n (λ i. used_at (files i)) ≤ t.counts.used
+  pub all_used : sum_to n (λ i. used_at (files i)) ≡ t.counts.used
   all_used =
       let sum : total (λ (x : Node). used_by x.content) tree.nodes ≡ sum_by node_uses (numbers n) =
       total-nodes n files t tied (λ (x : Node). used_by x.content) in
-      let all = used_is in
-      let most = sums_most n (λ i. used_at (files i)) node_uses (λ i l. by i (files i) refl) in
-      let counted = tied.counted.used_is in
-      omega (arith, sum, all, most, counted)
+      sums_same n (λ i. used_at (files i)) node_uses (λ i l. by i (files i) refl) ∙ sym sum ∙ sym used_is
+      ∙ sym tied.counted.used_is
     where
-      by : (i : ℕ) (o : Option File) → files i ≡ o → used_at (files i) ≤ node_uses i
-      by i None is = let none : used_at (files i) ≡ 0 = ap used_at is in omega (arith, none)
-      by i (Some x) is =
-          let here : used_at (files i) ≡ used_at (Some x) = ap used_at is in
-          let node : node_uses i ≡ used_by (node_of t.handle i (entry_of x)).content =
-          ap (λ (o : Option File). elim o as (λ _. ℕ) [
+      by : (i : ℕ) (o : Option File) → files i ≡ o → used_at (files i) ≡ node_uses i
+      by i None is =
+          ap used_at is ∙ sym (ap (λ (o : Option File). elim o as (λ _. ℕ) [
             | None ↦ 0
             | Some x ↦ used_by (node_of t.handle i (entry_of x)).content
-          ]) is in
-          let most = used_by_file i x is in
-          omega (arith, here, node, most)
+          ]) is)
+      by i (Some x) is =
+          ap used_at is ∙ used_by_file i x is
+          ∙ sym (ap (λ (o : Option File). elim o as (λ _. ℕ) [
+            | None ↦ 0
+            | Some x ↦ used_by (node_of t.handle i (entry_of x)).content
+          ]) is)
 
   pub are_sound : (limits : ServerLimits) → t.counts.used ≤ limits.bytes → AreSound limits n files
   are_sound limits within = record {

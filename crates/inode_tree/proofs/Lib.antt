@@ -10,6 +10,8 @@ pub mod SizeLaws
 pub mod BoundLaws
 pub mod WholeLaws
 pub mod DirCalls
+pub mod EntryLaws
+pub mod RootLaws
 pub mod WipeLaws
 pub mod TextLaws
 pub mod ReadLaws

@@ -1,5 +1,5 @@
 -- A root alone, after a medium is made anew.
-use Rattle.std.proofs.Common.{inl, inr, ◌≡◌, ◌≢◌, ◌↔◌, ℕ, ◌%◌, ◌<◌, ◌≤◌, arith, Bool, true, false, List, [], length, Option, Some, None, IsSome, refl, sym, ap, ◌∙◌, subst}
+use Rattle.std.proofs.Common.{inl, inr, ◌≡◌, ◌≢◌, ℕ, ◌<◌, ◌≤◌, arith, Bool, true, false, List, Option, Some, None, refl, sym, ap, ◌∙◌, subst}
 use Rattle.std.specs.Option.{option_map}
 use Rattle.std.specs.FinMap.{empty, insert, get-empty}
 use Rattle.std.specs.Ordering.{nat_cmp}
@@ -9,16 +9,11 @@ use Rattle.pointer_tree.specs.Tree.{Content as Blocks}
 use Rattle.pointer_tree.specs.declared.node.Area.{Area}
 use Rattle.server_trait.specs.Tree.{Tree, NamesOf, new_node}
 use Rattle.server_trait.specs.declared.server.ServerLimits.{ServerLimits}
-use Rattle.server_trait.proofs.TreeLaws.{one_or_not, some_none, some_same, same_answers}
-use Rattle.inode_dirs.specs.Slots.{Slots, IsIndexOf}
-use Rattle.inode_dirs.specs.Table.{DirSlots, Entry, node_of, tree_of, AreApart}
+use Rattle.server_trait.proofs.TreeLaws.{one_or_not, same_answers}
+use Rattle.inode_dirs.specs.Table.{Entry, node_of, tree_of, AreApart}
 use Rattle.inode_dirs.specs.Files.{File, entry_of, table_of}
-use Rattle.inode_dirs.specs.declared.index.Place.{Place}
 use Rattle.inode_dirs.proofs.TableLaws.{IsSameBut, node-none, tree-made}
-use Rattle.inode_counts.specs.Changes.{CountsNew}
-use Rattle.inode_counts.specs.Counted.{IsCounted, AreLed}
-use Rattle.inode_counts.proofs.EditCounts.{no_inodes, apart-none, counted-none}
-use Rattle.inode_counts.proofs.NodeCounts.{counted-made}
+use Rattle.inode_counts.proofs.EditCounts.{no_inodes, apart-none}
 use Rattle.inode_store.specs.Files.{new_file}
 use Rattle.inode_store.specs.Inodes.{file_at}
 use Rattle.inode_store.specs.Held.{files_of}
@@ -27,9 +22,9 @@ use Rattle.inode_store.proofs.HeldLaws.{files_of-within, files_of-past}
 use Rattle.std.proofs.lemmas.Bool.{cases_lt}
 use Rattle.inode_tree.specs.Tables.{Tables}
 use Rattle.inode_tree.specs.Changes.{AreBare, Takes}
-use Rattle.inode_tree.specs.Sound.{IsTied, IsSound, IsPlanned, the_tree, kind_at}
-use Rattle.inode_tree.proofs.TiedLaws.{some_is, no_some, entry_some, are_apart}
-use Rattle.inode_tree.proofs.TakeLaws.{bare_slots, bare_to, bare_dirs, bare_used}
+use Rattle.inode_tree.specs.Sound.{IsTied, IsSound, IsPlanned, the_tree}
+use Rattle.inode_tree.proofs.TiedLaws.{no_some}
+use Rattle.inode_tree.proofs.RootLaws.{apart_root, others-root, tied-root}
 use Rattle.inode_tree.proofs.WholeLaws.{new_is}
 
 -- the lowest inode that is taken is the first
@@ -68,87 +63,17 @@ module _ (limits : ServerLimits) (area : Area) (n : ℕ) (c : Blocks) (size : �
     | inr l ↦ files_of-past area n i c l
   ]
 
-  only_root : (i : ℕ) → IsSome (files i) → i ≡ 0
-  only_root i used = elim (one_or_not i 0) as (λ _. i ≡ 0) [
-    | inl at ↦ at
-    | inr ne ↦ absurd (no_some File (subst (λ o. IsSome o) (elsewhere i ne) used))
-  ]
-
-  few : (i : ℕ) → IsSome (files i) → i < n
-  few i used = let at = only_root i used in let l = some in omega (arith, at, l)
-
   apart_now : AreApart t.handle n (table_of files)
-  apart_now = are_apart n files t.handle apart few
+  apart_now = apart_root n files (new_file Dir) at_root refl refl elsewhere some t0 t bare takes apart
 
   others : IsSameBut no_inodes (table_of files) 0
-  others i ne = ap (option_map entry_of) (elsewhere i ne)
+  others = others-root n files (new_file Dir) at_root refl refl elsewhere some t0 t bare takes apart
 
   is : table_of files 0 ≡ Some e
   is = ap (option_map entry_of) at_root
 
-  no_slots : (ss : Slots) → e.body ≡ DirSlots ss → ss ≡ []
-  no_slots ss has = bare_slots Dir [] (λ _. refl) ss has
-
-  led_none : AreLed t.handle no_inodes
-  led_none i x ss name h at has to = absurd (some_none at refl)
-
-  counted : IsCounted t.handle n (table_of files) t.counts
-  counted = counted-made t.handle n no_inodes (table_of files) (apart-none t.handle n) apart_now led_none 0 others e refl
-      is (bare_to t.handle e.body no_slots) (λ tree ss has. bare_dirs t.handle tree ss (no_slots ss has)) t0.counts
-      t.counts (counted-none t.handle n t0.counts bare.used)
-      (subst (λ b. CountsNew t0.counts t.counts 0 b) (sym (bare_used t.handle Dir [] (λ _. refl))) takes.counts)
-
-  kind_other : (i : ℕ) → i ≢ 0 → t.kind i ≡ None
-  kind_other i ne = takes.kinds i ne ∙ bare.kinds i
-
-  dir_root : (i : ℕ) → t.kind i ≡ Some Dir → i ≡ 0
-  dir_root i is_dir = elim (one_or_not i 0) as (λ _. i ≡ 0) [
-    | inl at ↦ at
-    | inr ne ↦ absurd (some_none is_dir (kind_other i ne))
-  ]
-
-  no_place : (i : ℕ) (q : List ℕ) (p : Place) → i ≡ 0 → t.place i q ≡ Some p → ⊥
-  no_place i q p at leads = some_none leads (ap (λ i. t.place i q) at ∙ takes.bare q)
-
-  no_links : (i : ℕ) → i ≡ 0 → t.counts.links i ≡ 0
-  no_links i at = ap t.counts.links at ∙ takes.counts.links_here
-
   tied : IsTied n files t
-  tied = record {
-    inodes = takes.counts.inodes ∙ bare.inodes;
-    apart = apart;
-    few = few;
-    index = λ i x ss at has.
-        let here = only_root i (entry_some files i (some_is at)) in
-        let none : ss ≡ [] = no_slots ss (ap (λ (e : Entry). e.body)
-        (some_same is (ap (table_of files) (sym here) ∙ at)) ∙ has) in
-        subst (λ ss. IsIndexOf (t.place i) ss) (sym none) (λ q p. (
-          λ a. absurd (no_place i q p here a),
-          λ a. absurd (some_none a refl),
-        ));
-    led = λ i x ss q p at has leads. absurd (no_place i q p (only_root i (entry_some files i (some_is at))) leads);
-    counted = counted;
-    kinds = λ i. elim (one_or_not i 0) as (λ _. t.kind i ≡ kind_at files i) [
-      | inl at ↦ ap t.kind at ∙ takes.kind_here ∙ sym (ap (option_map (λ (f : File). f.kind)) (ap files at ∙ at_root))
-      | inr ne ↦ kind_other i ne ∙ sym (ap (option_map (λ (f : File). f.kind)) (elsewhere i ne))
-    ];
-    free = λ i l. elim (one_or_not i 0) as (λ _. (t.is_free i ≡ true) ↔ (t.kind i ≡ None)) [
-      | inl at ↦ (
-        λ a. absurd (let bad : true ≡ false = sym a ∙ ap t.is_free at ∙ takes.free_here in cc),
-        λ a. absurd (some_none (ap t.kind at ∙ takes.kind_here) a),
-      )
-      | inr ne ↦ (λ _. kind_other i ne, λ _. takes.free i ne ∙ bare.free i l)
-    ];
-    filled = λ i x at is_dir.
-        let here = only_root i (some_is at) in
-        ap (λ (f : File). length f.bytes % 288) (some_same at (ap files here ∙ at_root));
-    root = ap (option_map (λ (f : File). f.kind)) at_root;
-    parents = record {
-      up = λ i is_dir linked. absurd (let none = no_links i (dir_root i is_dir) in omega (arith, none, linked));
-      only = λ i q p is_dir leads to_dir. absurd (no_place i q p (dir_root i is_dir) leads);
-      once = λ i is_dir. let none = no_links i (dir_root i is_dir) in omega (arith, none);
-    };
-  }
+  tied = tied-root n files (new_file Dir) at_root refl refl elsewhere some t0 t bare takes apart
 
   pub whole-root : IsSound limits area n c size m t
   whole-root = record {

@@ -22,6 +22,7 @@ impl<M: Medium> InodeTree<M> {
         ensures whole { OnOk result (IsWhole M.content M.size self.new) }
         ensures node { OnOk result (tree_in M.content self.new ≡ edited (tree_in M.content self.old)
             ((tables_of self.old.tables).handle inode) (with_attr mode uid gid)) }
+        ensures first { OnOk result (M.content self.new.store.medium 0 ≡ M.content self.old.store.medium 0) }
         ensures limits { self.new.limits ≡ self.old.limits }
         ensures area { self.new.store.area ≡ self.old.store.area }
         ensures inodes { self.new.store.inodes ≡ self.old.store.inodes }
@@ -55,6 +56,7 @@ impl<M: Medium> InodeTree<M> {
         ensures most { IfOk result (λ n. n ≤ length piece.now) }
         ensures node { IfOk result (λ n. tree_in M.content self.new ≡ edited (tree_in M.content self.old)
             ((tables_of self.old.tables).handle inode) (with_bytes (overwritten offset (take n piece.now)))) }
+        ensures first { OnOk result (M.content self.new.store.medium 0 ≡ M.content self.old.store.medium 0) }
         ensures limits { self.new.limits ≡ self.old.limits }
         ensures area { self.new.store.area ≡ self.old.store.area }
         ensures inodes { self.new.store.inodes ≡ self.old.store.inodes }
@@ -78,6 +80,7 @@ impl<M: Medium> InodeTree<M> {
         ensures whole { OnOk result (IsWhole M.content M.size self.new) }
         ensures node { OnOk result (tree_in M.content self.new ≡ edited (tree_in M.content self.old)
             ((tables_of self.old.tables).handle inode) (with_bytes (resized size))) }
+        ensures first { OnOk result (M.content self.new.store.medium 0 ≡ M.content self.old.store.medium 0) }
         ensures limits { self.new.limits ≡ self.old.limits }
         ensures area { self.new.store.area ≡ self.old.store.area }
         ensures inodes { self.new.store.inodes ≡ self.old.store.inodes }

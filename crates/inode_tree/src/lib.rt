@@ -2,6 +2,8 @@
 #![tactic(auto)]
 
 mod edits;
+mod entries;
+mod looks;
 mod names;
 mod nodes;
 mod reads;

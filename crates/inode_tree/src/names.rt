@@ -5,6 +5,7 @@ ghost use Rattle.nfs2_types.specs.Names.{is_name};
 ghost use Rattle.nfs2_types.specs.declared.fattr.Kind.TheVariants.{Dir};
 ghost use Rattle.outside.specs.Causes.{WriteHasCause};
 ghost use Rattle.server_trait.specs.Tree.{named, unnamed};
+ghost use Rattle.inode_store.specs.Store.{file_in};
 ghost use Rattle.inode_tree.specs.Changes.{Unnames, inode_of};
 ghost use Rattle.inode_tree.specs.Tables.{is_dir_kind};
 ghost use Rattle.inode_tree.specs.Kept.{tables_of};
@@ -38,6 +39,7 @@ impl<M: Medium> InodeTree<M> {
         ensures node { OnOk result (tree_in M.content self.new ≡ named (tree_in M.content self.old)
             ((tables_of self.old.tables).handle dir) name.now ((tables_of self.old.tables).handle inode)) }
         ensures handles { OnOk result ((tables_of self.new.tables).handle ≡ (tables_of self.old.tables).handle) }
+        ensures first { OnOk result (M.content self.new.store.medium 0 ≡ M.content self.old.store.medium 0) }
         ensures limits { self.new.limits ≡ self.old.limits }
         ensures area { self.new.store.area ≡ self.old.store.area }
         ensures inodes { self.new.store.inodes ≡ self.old.store.inodes }
@@ -71,6 +73,9 @@ impl<M: Medium> InodeTree<M> {
             ((tables_of self.old.tables).handle dir) name.now) }
         ensures rows { OnOk result (Unnames (tables_of self.old.tables) (tables_of self.new.tables) dir name.now place.inode
             (is_dir_kind kind)) }
+        ensures others { OnOk result ((j : ℕ) → j < self.old.store.inodes → j ≢ dir →
+            file_in M.content self.new.store j ≡ file_in M.content self.old.store j) }
+        ensures first { OnOk result (M.content self.new.store.medium 0 ≡ M.content self.old.store.medium 0) }
         ensures limits { self.new.limits ≡ self.old.limits }
         ensures area { self.new.store.area ≡ self.old.store.area }
         ensures inodes { self.new.store.inodes ≡ self.old.store.inodes }

@@ -1,11 +1,12 @@
 //! Nodes that come and go.
 
-ghost use Rattle.std.specs.Prelude.{◌≡◌, ◌≢◌, ℕ, ◌+◌, ◌<◌, ◌≤◌, [], None, Some, IsSome, IfOk, OnOk, MatchOption, length};
+ghost use Rattle.std.specs.Prelude.{◌≡◌, ◌≢◌, ℕ, ◌+◌, ◌<◌, ◌≤◌, [], None, Some, IsSome, IfOk, IfSome, OnOk, MatchOption, length};
 ghost use Rattle.std.specs.FinMap.{len, empty};
 ghost use Rattle.nfs2_types.specs.declared.fattr.Kind.TheVariants.{Dir};
 ghost use Rattle.outside.specs.Causes.{WriteHasCause};
 ghost use Rattle.server_trait.specs.Tree.{node_at, with_node, without_node, new_node};
 ghost use Rattle.inode_dirs.specs.Files.{File};
+ghost use Rattle.inode_store.specs.Files.{new_file};
 ghost use Rattle.inode_store.specs.Store.{file_in};
 ghost use Rattle.inode_tree.specs.Sound.{empty_of};
 ghost use Rattle.inode_tree.specs.Changes.{Takes};
@@ -28,6 +29,10 @@ impl<M: Medium> InodeTree<M> {
             ((tables_of self.new.tables).handle i) (new_node i (empty_of kind))) ×
             (node_at (tree_in M.content self.old) ((tables_of self.new.tables).handle i) ≡ None) ×
             Takes (tables_of self.old.tables) (tables_of self.new.tables) i kind 0)) }
+        ensures inode { IfOk result (λ o. IfSome o (λ i. (i < self.old.store.inodes) ×
+            ((tables_of self.old.tables).kind i ≡ None) ×
+            (file_in M.content self.new.store i ≡ Some (new_file kind)))) }
+        ensures first { OnOk result (M.content self.new.store.medium 0 ≡ M.content self.old.store.medium 0) }
         ensures limits { self.new.limits ≡ self.old.limits }
         ensures area { self.new.store.area ≡ self.old.store.area }
         ensures inodes { self.new.store.inodes ≡ self.old.store.inodes }
@@ -53,6 +58,7 @@ impl<M: Medium> InodeTree<M> {
         ensures whole { OnOk result (IsWhole M.content M.size self.new) }
         ensures node { OnOk result (tree_in M.content self.new ≡
             without_node (tree_in M.content self.old) ((tables_of self.old.tables).handle inode)) }
+        ensures first { OnOk result (M.content self.new.store.medium 0 ≡ M.content self.old.store.medium 0) }
         ensures limits { self.new.limits ≡ self.old.limits }
         ensures area { self.new.store.area ≡ self.old.store.area }
         ensures inodes { self.new.store.inodes ≡ self.old.store.inodes }

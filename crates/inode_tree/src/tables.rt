@@ -69,6 +69,7 @@ impl InodeTables {
     ghost use Rattle.nfs2_types.specs.declared.fattr.Kind.{Kind};
     ghost use Rattle.inode_tree.specs.Changes.{Takes, Gives, Named, Unnamed, Resizes};
     ghost use Rattle.inode_tree.specs.Kept.{tables_of};
+    ghost use Rattle.inode_tree.specs.Planned.{epoch_of};
 
     /// The tables of so many free inodes, whose handles carry this epoch.
     pub fn new(alloc: Global, inodes: u32, epoch: u64) -> Result<InodeTables, NoMemory>
@@ -84,9 +85,10 @@ impl InodeTables {
         let Ok(parents) = Vec::from_elem(alloc, 0, inodes as usize) else {
             return Err(NoMemory);
         };
+        // The first salt is that of inodes that a medium held before.
         Ok(InodeTables {
             epoch,
-            next: 0,
+            next: 1,
             salts,
             kinds,
             parents,
@@ -176,7 +178,8 @@ impl InodeTables {
         requires links { (tables_of self.old).counts.links inode + 1 < 2 ^ 32 }
         requires subdirs { (tables_of self.old).counts.subdirs dir + 1 < 2 ^ 32 }
         requires used { (tables_of self.old).counts.used + 512 < 2 ^ 64 }
-        ensures { Named (tables_of self.old) (tables_of self.new) dir inode is_dir }
+        ensures rows { Named (tables_of self.old) (tables_of self.new) dir inode is_dir }
+        ensures epoch { epoch_of self.new ≡ epoch_of self.old }
     {
         self.counts.add_name(dir, inode, is_dir);
         if is_dir {

@@ -77,7 +77,7 @@ returns-clause-whole g c =
     let t = tables_of s.tables in
     let rows : Named (with_index s.tables c.args.dir c.add_name.new.index) (tables_of c.add_name-2.new.self) c.args.dir
     c.args.inode (is_dir_kind c.args.kind) = subst (λ b. Named (with_index s.tables c.args.dir c.add_name.new.index)
-    (tables_of c.add_name-2.new.self) c.args.dir c.args.inode b) c.is_directory.ensures c.add_name-2.ensures in
+    (tables_of c.add_name-2.new.self) c.args.dir c.args.inode b) c.is_directory.ensures c.add_name-2.ensures.rows in
     named-whole g.M.Medium.content g.M.Medium.size s c.requires.whole c.args.dir c.requires.within c.requires.dir m
     (row_at s.tables s.store.inodes c.args.dir m c.requires.whole.tied.inodes c.requires.within
     c.index_mut-index.ensures.value)
@@ -96,7 +96,7 @@ returns-clause-node g c =
     let t = tables_of s.tables in
     let rows : Named (with_index s.tables c.args.dir c.add_name.new.index) (tables_of c.add_name-2.new.self) c.args.dir
     c.args.inode (is_dir_kind c.args.kind) = subst (λ b. Named (with_index s.tables c.args.dir c.add_name.new.index)
-    (tables_of c.add_name-2.new.self) c.args.dir c.args.inode b) c.is_directory.ensures c.add_name-2.ensures in
+    (tables_of c.add_name-2.new.self) c.args.dir c.args.inode b) c.is_directory.ensures c.add_name-2.ensures.rows in
     named-held g.M.Medium.content g.M.Medium.size s c.requires.whole c.args.dir c.requires.within c.requires.dir m
     (row_at s.tables s.store.inodes c.args.dir m c.requires.whole.tied.inodes c.requires.within
     c.index_mut-index.ensures.value)
@@ -106,3 +106,6 @@ returns-clause-node g c =
     (λ q ne. e.names q (λ at. ne (at ∙ c.in-Ok.ensures.items)))
     (ap (λ q. inode_by c.add_name.new.index q) (sym c.in-Ok.ensures.items) ∙ e.here) rows c.requires.new
     c.requires.unlinked c.requires.room
+
+pub returns-clause-first : goal.returns-clause-first
+returns-clause-first g c = c.in_ok-add_name.ensures.file.changes.first

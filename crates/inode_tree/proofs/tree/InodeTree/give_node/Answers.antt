@@ -55,3 +55,6 @@ returns-clause-node g c =
     held-given s.limits s.store.area s.store.inodes c0 (g.M.Medium.size s.store.medium) s.store.map t c.requires.whole
     n.area n.inodes (g.M.Medium.size n.medium) e.area e.inodes e.size (g.M.Medium.content n.medium) n.map t2
     c.args.inode c.requires.within f.0 f.1 (c.requires.bare f.0 f.1) c.requires.unlinked c.requires.other gives e.file
+
+pub returns-clause-first : goal.returns-clause-first
+returns-clause-first g c = c.in_ok-give.ensures.file.changes.first

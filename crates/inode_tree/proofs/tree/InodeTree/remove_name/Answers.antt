@@ -3,6 +3,7 @@ use Rattle.nfs2_types.specs.declared.fattr.Kind.TheVariants.{Dir}
 use Rattle.server_trait.specs.Tree.{one_if}
 use Rattle.inode_slots.specs.Directory.{without_slot}
 use Rattle.inode_store.specs.Held.{files_of}
+use Rattle.inode_store.specs.Inodes.{file_at}
 use Rattle.inode_tree.specs.Tables.{is_dir_kind}
 use Rattle.inode_tree.specs.Changes.{Unnamed, inode_of}
 use Rattle.inode_tree.specs.Kept.{tables_of}
@@ -115,3 +116,13 @@ returns-clause-rows g c =
     (without_slot c.args.place.slot) e.area e.inodes e.size e.directory e.file rows.places
     c.args.name.now c.args.place.inode c.args.kind c.requires.node e.names e.gone rows
     (ap inode_of c.requires.there)
+
+pub returns-clause-first : goal.returns-clause-first
+returns-clause-first g c = c.in_ok-remove_name.ensures.file.changes.first
+
+pub returns-clause-others : goal.returns-clause-others
+returns-clause-others g c j l ne =
+    let s = c.args.self.now in
+    let e = c.in_ok-remove_name.ensures in
+    e.file.changes.others j (let same = e.inodes in omega (arith, l, same)) ne
+    ∙ ap (λ a. file_at a (g.M.Medium.content s.store.medium) j) e.area

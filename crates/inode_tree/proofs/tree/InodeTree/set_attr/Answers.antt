@@ -65,3 +65,6 @@ returns-clause-node g c =
     (with_attr c.args.mode c.args.uid c.args.gid) c0 (g.M.Medium.content n.medium) n.map f.1 e.file)
     (omega (arith, most, within))
     (with_attr_node c.args.mode c.args.uid c.args.gid) refl
+
+pub returns-clause-first : goal.returns-clause-first
+returns-clause-first g c = c.in_ok-set_attr.ensures.file.changes.first

@@ -86,3 +86,6 @@ returns-clause-node g c =
     (with_bytes (resized c.args.size)) c0 (g.M.Medium.content n.medium) n.map f.1 e.file)
     (omega (arith, most, size, more, room, c.from-2.ensures))
     (node_bytes (resized c.args.size)) (file-node t.handle c.args.inode f.0 (resized c.args.size) f.2)
+
+pub returns-clause-first : goal.returns-clause-first
+returns-clause-first g c = c.in_ok-set_size.ensures.file.changes.first

@@ -56,3 +56,15 @@ returns-clause-node g c =
           apart e.file,
       at.2,
     )
+
+pub returns-clause-first : goal.returns-clause-first
+returns-clause-first g c = c.in_ok-take.ensures.file.changes.first
+
+pub returns-clause-inode : goal.returns-clause-inode
+returns-clause-inode g c =
+    let s = c.args.self.now in
+    let e = c.in_ok-take.ensures in
+    let at = rw c.in-Some.is at c.in_ok-inode.ensures in
+    let inodes = c.requires.tied.inodes in
+    let within : c.in-Some.inode < s.store.inodes = (let l = at.0 in omega (arith, l, inodes)) in
+    (within, (c.requires.tied.free c.in-Some.inode within).0 at.1, e.file.changes.here)

@@ -103,3 +103,6 @@ returns-clause-node g c =
     (with_bytes (overwritten c.args.offset (take c.in_ok-count.count c.args.piece.now))) c0 (g.M.Medium.content n.medium) n.map f.1 e.file)
     (omega (arith, most, size, more, room, c.from-2.ensures, c.max-after.ensures, c.in_ok-count.ensures.count))
     (node_bytes (overwritten c.args.offset (take c.in_ok-count.count c.args.piece.now))) (file-node t.handle c.args.inode f.0 (overwritten c.args.offset (take c.in_ok-count.count c.args.piece.now)) f.2)
+
+pub returns-clause-first : goal.returns-clause-first
+returns-clause-first g c = c.in_ok-count.ensures.file.changes.first

@@ -59,3 +59,6 @@ returns-clause-node g c =
     (with_bytes (λ _. c.args.text.now)) c0 (g.M.Medium.content n.medium) n.map f.1 e.file)
     (omega (arith, none, room))
     (with_text c.args.text.now) (text-node t.handle c.args.inode f.0 c.args.text.now f.2)
+
+pub returns-clause-first : goal.returns-clause-first
+returns-clause-first g c = c.in_ok-put_text.ensures.file.changes.first

@@ -1,0 +1,21 @@
+use Rattle.std.proofs.Common.{◌≡◌, Some}
+use Rattle.nfs2_types.specs.declared.fattr.Kind.TheVariants.{Dir}
+use Rattle.inode_tree.specs.Kept.{tables_of}
+use Rattle.inode_tree.specs.Planned.{epoch_of}
+use Rattle.inode_mount.specs.Reading.{files_in, AreNamed}
+use Rattle.inode_mount.proofs.names.enter_slots.Given as goal
+
+abbrev pub invariant-loop-slot : goal.invariant-loop-slot
+invariant-loop-slot g l = record {
+  state : AreNamed l.fn.tree.store.inodes (files_in g.M.Medium.content l.fn.tree.store) l.dir l.slot
+      (tables_of l.tree.tables);
+  dir : (tables_of l.tree.tables).kind l.dir ≡ Some Dir;
+  epoch : epoch_of l.tree.tables ≡ epoch_of l.fn.tree.tables;
+  content : g.M.Medium.content l.tree.store.medium ≡ g.M.Medium.content l.fn.tree.store.medium;
+  map : l.tree.store.map ≡ l.fn.tree.store.map;
+  limits : l.tree.limits ≡ l.fn.tree.limits;
+  area : l.tree.store.area ≡ l.fn.tree.store.area;
+  inodes : l.tree.store.inodes ≡ l.fn.tree.store.inodes;
+  size : g.M.Medium.size l.tree.store.medium ≡ g.M.Medium.size l.fn.tree.store.medium;
+  faults : g.M.Medium.faults l.tree.store.medium ≡ g.M.Medium.faults l.fn.tree.store.medium;
+}

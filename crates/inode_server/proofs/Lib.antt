@@ -1,0 +1,10 @@
+pub mod OnceLaws
+pub mod CallLaws
+pub mod FoundLaws
+pub mod AskLaws
+pub mod MakeLaws
+pub mod MoveLaws
+pub mod UnderLaws
+pub mod ReadyLaws
+pub mod LifeLaws
+pub mod RowLaws

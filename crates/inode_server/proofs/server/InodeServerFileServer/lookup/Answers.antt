@@ -1,0 +1,21 @@
+use Rattle.inode_server.proofs.ReadyLaws.{again, answers, whole_now}
+use Rattle.inode_server.proofs.server.InodeServerFileServer.lookup.Goals as goal
+
+pub lookup-answer-requires : goal.lookup-answer-requires
+lookup-answer-requires g c =
+    let s = c.args.self.now in
+    whole_now g.M.Medium.content g.M.Medium.size g.M.Medium.faults s.up s.tree s.ready c.requires.tree
+
+pub invariant_of-self : goal.invariant_of-self
+invariant_of-self g c =
+    let s = c.args.self.now in
+    record {
+      ready = again g.M.Medium.content g.M.Medium.size g.M.Medium.faults _ s.up s.tree c.requires.tree c.lookup-answer.result c.lookup-answer.new.tree
+          c.lookup-answer.ensures c.has_tree-self.result c.has_tree-self.ensures s.ready;
+    }
+
+pub returns : goal.returns
+returns g c =
+    let s = c.args.self.now in
+    answers g.M.Medium.content g.M.Medium.size g.M.Medium.faults _ s.up s.tree c.requires.tree c.lookup-answer.result c.lookup-answer.new.tree
+    c.lookup-answer.ensures c.has_tree-self.result c.has_tree-self.ensures

@@ -1,0 +1,21 @@
+use Rattle.inode_server.proofs.ReadyLaws.{again, answers, whole_now}
+use Rattle.inode_server.proofs.server.InodeServerFileServer.mkdir.Goals as goal
+
+pub make-answer-requires-clause-whole : goal.make-answer-requires-clause-whole
+make-answer-requires-clause-whole g c =
+    let s = c.args.self.now in
+    whole_now g.M.Medium.content g.M.Medium.size g.M.Medium.faults s.up s.tree s.ready c.requires.tree
+
+pub invariant_of-self : goal.invariant_of-self
+invariant_of-self g c =
+    let s = c.args.self.now in
+    record {
+      ready = again g.M.Medium.content g.M.Medium.size g.M.Medium.faults _ s.up s.tree c.requires.tree c.make-answer.result c.make-answer.new.tree
+          c.make-answer.ensures c.has_tree-self.result c.has_tree-self.ensures s.ready;
+    }
+
+pub returns : goal.returns
+returns g c =
+    let s = c.args.self.now in
+    answers g.M.Medium.content g.M.Medium.size g.M.Medium.faults _ s.up s.tree c.requires.tree c.make-answer.result c.make-answer.new.tree
+    c.make-answer.ensures c.has_tree-self.result c.has_tree-self.ensures

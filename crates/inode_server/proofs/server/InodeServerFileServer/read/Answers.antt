@@ -1,0 +1,21 @@
+use Rattle.inode_server.proofs.ReadyLaws.{again, answers, whole_now}
+use Rattle.inode_server.proofs.server.InodeServerFileServer.read.Goals as goal
+
+pub read-answer-requires : goal.read-answer-requires
+read-answer-requires g c =
+    let s = c.args.self.now in
+    whole_now g.M.Medium.content g.M.Medium.size g.M.Medium.faults s.up s.tree s.ready c.requires
+
+pub invariant_of-self : goal.invariant_of-self
+invariant_of-self g c =
+    let s = c.args.self.now in
+    record {
+      ready = again g.M.Medium.content g.M.Medium.size g.M.Medium.faults _ s.up s.tree c.requires c.read-answer.result c.read-answer.new.tree
+          c.read-answer.ensures c.has_tree-self.result c.has_tree-self.ensures s.ready;
+    }
+
+pub returns : goal.returns
+returns g c =
+    let s = c.args.self.now in
+    answers g.M.Medium.content g.M.Medium.size g.M.Medium.faults _ s.up s.tree c.requires c.read-answer.result c.read-answer.new.tree
+    c.read-answer.ensures c.has_tree-self.result c.has_tree-self.ensures

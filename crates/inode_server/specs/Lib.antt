@@ -1,0 +1,6 @@
+pub mod Answers
+pub mod Found
+pub mod Made
+pub mod Ready
+pub mod Rows
+pub mod State
