@@ -21,7 +21,7 @@ pub use link::add_link;
 pub use moves::move_name;
 pub use node::{NewNode, make_node};
 pub use object::NewObject;
-pub use put::write_file;
+pub use put::{write_all, write_file};
 pub use resize::resize_file;
 pub use settings::set_object;
 pub use times::set_times;

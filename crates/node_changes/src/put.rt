@@ -33,7 +33,7 @@ fn fill(server: &mut Srv, file: &Handle, size: u32, offset: u32) -> Result<(), W
 }
 
 /// Hands a piece to the server until all of it stands at the offset, however short each write is.
-fn write_all(server: &mut Srv, file: &Handle, offset: u32, piece: &[u8]) -> Result<(), WrapErr>
+pub fn write_all(server: &mut Srv, file: &Handle, offset: u32, piece: &[u8]) -> Result<(), WrapErr>
     requires { (b : List ℕ)
         × (CanHold (state server.old) file.now b (max (length b) (offset + length piece.now)))
         × (offset ≤ length b) }

@@ -1,0 +1,12 @@
+mod Dressings
+mod Finals
+mod Makings
+mod NamedDirs
+mod NamesPut
+mod OnceLists
+mod PartlyNamed
+mod Prefixes
+mod Starts
+mod Steps
+mod Sums
+mod ValidNames

@@ -1,0 +1,4 @@
+pub mod Fill
+pub mod Make
+pub mod Name
+pub mod Rebuild

@@ -1,0 +1,9 @@
+mod Begun
+mod Listing
+mod MovedRows
+mod Noting
+mod NumberRows
+mod Rebooted
+mod Relinked
+mod RowSteps
+mod Turns

@@ -1,0 +1,9 @@
+pub mod Begin
+pub mod Dress
+pub mod Fill
+pub mod Forms
+pub mod Parents
+pub mod Place
+pub mod Put
+pub mod Staged
+pub mod Steps
