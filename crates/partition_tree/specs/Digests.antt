@@ -50,6 +50,13 @@ pub record IsNode (n level number : ℕ) : Type 0 where
   pub below : level ≤ levels
   pub within : number < 16 ^ (levels - level)
 
+-- in the tree over so many digests stands a digest of this level and number; level 0 has those of the list
+pub record IsDigest (n level number : ℕ) : Type 0 where
+  pub levels : ℕ
+  pub size : n ≡ 16 ^ levels
+  pub below : level ≤ levels
+  pub within : number < 16 ^ (levels - level)
+
 -- the digests of some texts
 abbrev pub digests : List (List ℕ) → List (List ℕ)
 digests texts = map sha256 texts

@@ -3,7 +3,8 @@
 ghost use Rattle.std.specs.Prelude.{◌≡◌, ◌+◌, ◌*◌, ◌^◌, ◌<◌, ◌≤◌, ◌↔◌, ◌++◌, ◌∷◌, [], ℕ, List, length, take, set};
 ghost use Rattle.std.specs.Prelude.{IfOk, OnOk, IfSome, IsSome, All};
 ghost use Rattle.sha2.specs.Sha256.{sha256};
-ghost use Rattle.partition_tree.specs.Digests.{IsTreeSize, IsNode, IsRoot, node_at, node_over, digests, updated, most_levels};
+ghost use Rattle.partition_tree.specs.Digests.{IsTreeSize, IsNode, IsDigest, IsRoot, digest_at, node_at, node_over, digests};
+ghost use Rattle.partition_tree.specs.Digests.{updated, most_levels};
 ghost use Rattle.partition_tree.specs.Levels.{IsTree, from, nodes_upto, start, width};
 
 use crate::digests::node_text;
@@ -190,6 +191,23 @@ impl Tree {
         ensures tree { IsTreeSize result }
     {
         self.leaves
+    }
+
+    /// How many levels of nodes it has. It takes no memory.
+    pub fn levels(&self) -> u32
+        ensures size { length self.now ≡ 16 ^ result }
+        ensures few { result ≤ most_levels }
+    {
+        self.levels
+    }
+
+    /// The digest of a level with a number: at level 0 that of a text, above it that of a node. It takes no memory.
+    pub fn digest(&self, level: u32, number: u32) -> Digest
+        requires { IsDigest (length self.now) level number }
+        ensures { result ≡ digest_at self.now level number }
+    {
+        let (below, _) = place_of(self.leaves, self.levels, level);
+        self.kept[below + number as usize]
     }
 
     /// The digest of the top node. It takes no memory.

@@ -1,0 +1,9 @@
+pub mod Gathering
+pub mod Settling
+pub mod Counting
+pub mod Passing
+pub mod Reals
+pub mod Walks
+pub mod Roots
+pub mod Gathered
+pub mod Rising

@@ -1,0 +1,4 @@
+pub mod Stand
+pub mod Fetch
+pub mod Got
+pub mod Walk
