@@ -10,9 +10,10 @@ use Rattle.log_format.specs.declared.Line.{Line}
 use Rattle.log_format.specs.Lines.{text_of}
 use Rattle.log_stream.specs.Writing.{Writes}
 use Rattle.log_stream.proofs.WriteSteps.{Appends-none}
+use Rattle.cluster_model.specs.Good.{FitsEvent}
 use Rattle.cluster_model.specs.Calm.{IsHarmless}
 use Rattle.cluster_model.specs.Run.{start, AreMet}
-use Rattle.service_laws.specs.Served.{service}
+use Rattle.service_laws.specs.Served.{IsSized, service}
 use Rattle.cluster_model.specs.declared.Request.{Request}
 use Rattle.cluster.specs.Positions.{AreLater}
 use Rattle.cluster.specs.OverBench.{Kept}
@@ -34,11 +35,13 @@ use Rattle.basefs.proofs.Turning.{stops_most, ends_at_write, unread_at_write, no
 module _ {X : Type 0} (state : X → Server) (limits : Limits) (kept : Kept) (servers servers' : List X)
     (tables tables' : List ConfTable) (downs downs' : List FaultPoint) (lines : List Line)
     (s : Starts state limits kept servers servers' tables' downs' lines)
-    (later : AreLater state (3 * limits.f + 1) servers servers') where
+    (later : AreLater state (3 * limits.f + 1) servers servers') (sized : IsSized limits) where
   here : Here state limits servers servers' tables' downs' kept []
   here = record {
     ms = start (service limits) (length servers) downs';
     is_run = ([], sym (append-nil (start (service limits) (length servers) downs')), refl);
+    sized = sized;
+    fits = All-nil (FitsEvent (service limits));
     harmless = All-nil IsHarmless;
     is_state = s.stands;
     requests = s.requests;

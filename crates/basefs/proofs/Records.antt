@@ -3,21 +3,18 @@ use Rattle.std.proofs.Common.{◌≡◌, ℕ, suc, ◌+◌, ◌-◌, ◌<◌, Bo
 use Rattle.std.specs.Prelude.{◌||◌, ◌*◌, ◌^◌}
 use Rattle.nfs2_types.specs.declared.Limits.{Limits}
 use Rattle.nfs2_types.specs.declared.Time.{Time}
-use Rattle.nfs2_types.specs.Times.{is_time}
 use Rattle.std.proofs.lemmas.Bool.{leb-false}
 use Rattle.log_format.specs.declared.Event.{Event}
 use Rattle.log_format.specs.declared.Event.TheVariants as records
-use Rattle.log_format.specs.Records.{record_at, event_form}
+use Rattle.log_format.specs.Records.{record_at}
 use Rattle.log_format.specs.Spelling.{record_len}
-use Rattle.log_format.proofs.EventTexts.{event_told}
-use Rattle.xdr_cut.proofs.Fronts.{front_spelled}
 use Rattle.log_stream.specs.Reading.{Spells}
 use Rattle.log_stream.proofs.Lengths.{length_spelled}
 use Rattle.cluster_model.specs.declared.Request.{Request}
 use Rattle.cluster_model.specs.Calm.{IsHarmless}
 use Rattle.cluster.specs.Steps.{is_built, asked_by, CanStep}
 use Rattle.basefs.specs.declared.verdict.Verdict.TheVariants as verdict
-use Rattle.basefs.proofs.Numbers.{run_told}
+use Rattle.service_laws.proofs.Fits.{record_numbers}
 use Rattle.basefs.proofs.Running.{built_harmless}
 use Rattle.basefs.specs.Log.{bad, not_built, stops, goes_on, behind_last, judge, judge_request, last_time, falls, records_from}
 
@@ -86,27 +83,13 @@ ends_last : (e : Event) (b : Bool) → cond b verdict.Goes verdict.Waits ≡ ver
 ends_last e true h = let g : verdict.Goes ≡ verdict.Ends = h in cc
 ends_last e false h = let g : verdict.Waits ≡ verdict.Ends = h in cc
 
--- the time of a request that was read is a time
-request_timed : (f servers : ℕ) (taken : List ℕ) (client : ℕ) (time : Time) (bytes : List ℕ) →
-    Spells (record_at f servers) taken (records.Request client time bytes) → is_time time ≡ true
-request_timed f servers taken client time bytes h =
-    let s = front_spelled (event_form f servers) (taken ++ []) [] (records.Request client time bytes) (h []) in
-    let within = (event_told f servers (records.Request client time bytes) s.text s.spells).1 in
-    grind (arith, within.0)
-
--- a replica that is to run is there
-run_known : (f servers : ℕ) (taken : List ℕ) (r : ℕ) → Spells (record_at f servers) taken (records.Run r) → r < 3 * f + 1
-run_known f servers taken r h =
-    let s = front_spelled (event_form f servers) (taken ++ []) [] (records.Run r) (h []) in
-    run_told f servers r s.text s.spells
-
 pub can_step : (limits : Limits) (servers : ℕ) (q : List Request) (taken : List ℕ) (e : Event) →
     Spells (record_at limits.f servers) taken e → judge q e ≡ verdict.Goes → CanStep limits q e
 can_step limits servers q taken (records.Request client time bytes) h j = (
   request_can (length q) (last_time q) time j,
-  request_timed limits.f servers taken client time bytes h,
+  (record_numbers limits.f servers (taken ++ []) [] (records.Request client time bytes) (h [])).moment,
 )
-can_step limits servers q taken (records.Run r) h j = run_known limits.f servers taken r h
+can_step limits servers q taken (records.Run r) h j = record_numbers limits.f servers (taken ++ []) [] (records.Run r) (h [])
 can_step limits servers q taken records.RunAll h j = refl
 can_step limits servers q taken records.End h j = refl
 can_step limits servers q taken e h j = goes_built (is_built e) j

@@ -1,4 +1,4 @@
--- What holds of every run of the service in which no record harms.
+-- What holds of every run of the service: of fair moments, and where no record harms.
 use Rattle.std.proofs.Common.{◌≡◌, ◌≢◌, ℕ, suc, ◌+◌, ◌*◌, true, List, [], ◌∷◌, ◌++◌, length, get_or, refl, sym, ◌∙◌, ap, subst, arith}
 use Rattle.std.specs.List.{All}
 use Rattle.log_format.specs.declared.Event.{Event}
@@ -10,8 +10,9 @@ use Rattle.cluster_model.specs.Tree.{below}
 use Rattle.cluster_model.specs.Moments.{Moment}
 use Rattle.cluster_model.specs.Turns.{last, moments}
 use Rattle.cluster_model.specs.Loose.{LooseStep}
+use Rattle.cluster_model.specs.Good.{FitsEvent}
 use Rattle.cluster_model.specs.Calm.{IsHarmless}
-use Rattle.cluster_model.specs.Run.{fresh, start, start_fault, LooseFrom, LooseRun, Always, IsOnce, replies}
+use Rattle.cluster_model.specs.Run.{fresh, start, start_fault, run, LooseFrom, LooseRun, Always, SameUptoApart, UptoApart, nothing, IsAsPromised, IsOnce, replies}
 use Rattle.cluster_model.specs.Served.{IsServed}
 use Rattle.cluster_model.proofs.Growing.{faults_behind}
 use Rattle.cluster_model.proofs.Lines.{Chain}
@@ -19,8 +20,10 @@ use Rattle.cluster_model.proofs.Failures.{run_chain}
 use Rattle.cluster_model.proofs.Once.{run_once}
 use Rattle.cluster_model.proofs.Voted.{Always-last}
 use Rattle.cluster_model.proofs.CalmRuns.{loose_run_calm}
-use Rattle.service_laws.specs.Served.{service}
-use Rattle.service_laws.proofs.Served.{service_orderly}
+use Rattle.cluster_model.proofs.ExactRuns.{exact_run}
+use Rattle.cluster_model.proofs.Headline.{headline}
+use Rattle.service_laws.specs.Served.{IsSized, service}
+use Rattle.service_laws.proofs.Served.{service_lawful, service_orderly}
 use Rattle.cluster.specs.Steps.{is_built}
 use Rattle.basefs.specs.Run.{IsTold, end_of}
 
@@ -80,6 +83,16 @@ module _ (limits : Limits) (servers : ℕ) (downs : List FaultPoint) (events : L
             (Always-last (λ (m : Moment). IsOnce m.state.decisions) first ms tt
             (run_once (service limits) servers downs events ms loose));
       }
+
+  pub run_exact : IsSized limits → All (FitsEvent (service limits)) events →
+      SameUptoApart (service limits) nothing ms (run (service limits) servers downs events)
+  run_exact sized fits =
+      exact_run (service limits) (service_lawful limits sized) servers downs events fits ms loose
+
+  pub run_promised : IsSized limits → All (FitsEvent (service limits)) events →
+      UptoApart (service limits) nothing (IsAsPromised (service limits)) ms
+  run_promised sized fits =
+      headline (service limits) (service_lawful limits sized) servers downs events fits ms loose
 
   pub run_served : All IsHarmless events → Always (IsServed (service limits)) ms
   run_served harmless =

@@ -19,6 +19,7 @@ use Rattle.outside.specs.declared.SinkErr.TheVariants as sink
 use Rattle.cluster_model.specs.Tree.{below}
 use Rattle.cluster_model.specs.Moments.{Moment}
 use Rattle.cluster_model.specs.Turns.{last}
+use Rattle.cluster_model.specs.Good.{FitsEvent}
 use Rattle.cluster_model.specs.Calm.{IsHarmless}
 use Rattle.cluster_model.specs.Loose.{LooseStep}
 use Rattle.cluster_model.specs.Run.{faults_in, fresh, LooseRun, AreMet, failed_of}
@@ -40,7 +41,7 @@ use Rattle.basefs.specs.Going.{Here, run_status}
 use Rattle.basefs.proofs.Points.{IsOf, points_then}
 use Rattle.cluster.proofs.Struck.{length-below, later_none, later_then}
 use Rattle.basefs.proofs.Places.{live_stand, worn_later}
-use Rattle.basefs.proofs.Running.{run_more, run_told, run_served}
+use Rattle.basefs.proofs.Running.{run_more, run_told, run_exact, run_promised, run_served}
 
 -- ONE RECORD MORE
 
@@ -50,8 +51,8 @@ all_as P Q xs f h = λ k d within. f _ (h k d within)
 module _ {X : Type 0} {state : X → Server} {limits : Limits} {before servers servers' : List X}
     {tables tables' : List ConfTable} {downs downs' : List FaultPoint} {kept kept' : Kept} {events : List Event}
     {e : Event} {lines : List Line} (h : Here state limits before servers tables downs kept events)
-    (s : Steps state kept kept' servers servers' tables tables' downs downs' e lines) (harmless : IsHarmless e)
-    (later : AreLater state (3 * limits.f + 1) servers servers') where
+    (s : Steps state kept kept' servers servers' tables tables' downs downs' e lines)
+    (fits : FitsEvent (service limits) e) (harmless : IsHarmless e) (later : AreLater state (3 * limits.f + 1) servers servers') where
   abbrev first : Moment
   first = fresh (service limits) (length before)
 
@@ -114,6 +115,8 @@ module _ {X : Type 0} {state : X → Server} {limits : Limits} {before servers s
   here_more = record {
     ms = h.ms ++ follows.ms;
     is_run = run_then;
+    sized = h.sized;
+    fits = All-push (FitsEvent (service limits)) events e h.fits fits;
     harmless = All-push IsHarmless events e h.harmless harmless;
     is_state = subst (λ (n : Moment). IsState state kept' servers' tables' n.state) (sym end_is) follows.stands;
     requests = s.requests ∙ ap (λ q. q ++ asked_by e) h.requests
@@ -201,6 +204,8 @@ module _ {X : Type 0} {state : X → Server} {limits : Limits} {old now : Settin
     printed = printed;
     cut = cut;
     unread = unread;
+    exact = run_exact limits (length old.servers) now.downs events h.ms h.is_run h.sized h.fits;
+    promised = run_promised limits (length old.servers) now.downs events h.ms h.is_run h.sized h.fits;
     calm = run_served limits (length old.servers) now.downs events h.ms h.is_run h.harmless;
     told = run_told limits (length old.servers) now.downs events h.ms h.is_run;
     requests = h.is_state.requests ∙ h.requests;
@@ -233,6 +238,8 @@ ran_short {state = state} {limits = limits} {old = old} {now = now} {events = ev
       printed = printed;
       cut = cut;
       unread = λ e. absurd (let other : status.NoMemory ≡ status.WriteFault = e in cc);
+      exact = run_exact limits (length old.servers) now.downs events h.ms h.is_run h.sized h.fits;
+      promised = run_promised limits (length old.servers) now.downs events h.ms h.is_run h.sized h.fits;
       calm = run_served limits (length old.servers) now.downs events h.ms h.is_run h.harmless;
       told = run_told limits (length old.servers) now.downs events h.ms h.is_run;
       requests = h.is_state.requests ∙ h.requests;

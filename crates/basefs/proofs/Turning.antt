@@ -16,6 +16,7 @@ use Rattle.log_stream.specs.declared.ReadErr.TheVariants as read
 use Rattle.log_stream.specs.Reading.{Reads}
 use Rattle.outside.specs.declared.SinkErr.TheVariants as sink
 use Rattle.cluster_model.specs.declared.Request.{Request}
+use Rattle.cluster_model.specs.Good.{FitsEvent}
 use Rattle.cluster_model.specs.Calm.{IsHarmless}
 use Rattle.cluster.specs.Positions.{AreLater}
 use Rattle.cluster.specs.OverBench.{Kept}
@@ -31,6 +32,8 @@ use Rattle.basefs.specs.Setting.{Setting, setting}
 use Rattle.basefs.specs.Run.{IsPrefix, HoldsOf, Says, Ends, Ran}
 use Rattle.basefs.specs.Going.{Goes, Going, Turns, FinishSays, Finishes, read_status, run_status}
 use Rattle.basefs.specs.Turns.{Stepped, Written}
+use Rattle.service_laws.specs.Served.{service}
+use Rattle.service_laws.proofs.Fits.{record_numbers, numbers_fit}
 use Rattle.basefs.proofs.Records.{records_zero, records_none, goes_harmless, ends_harmless}
 use Rattle.basefs.proofs.Taking.{Ends-then, Goes-then, HoldsOf-always, over_read, over_wrong, over_waits, over_memory, one_goes, last_goes, over_finish, over_most}
 use Rattle.basefs.proofs.Stepped.{here_more, text_more, ran_here, ran_short, cut_here, cut_whole, printed_all, printed_part, appended_all}
@@ -124,6 +127,12 @@ module _ {X : Type 0} (state : X → Server) (l : Limits) (left left' held : Opt
         (subst (λ (x : Limits). Reads (record_at x.f (length servers)) (λ (y : Event). y) left left' (Ok e))
         (kept_l ∙ g.here.limits_are) r)
 
+    -- it fits
+    fits_by : Before limits log old n → FitsEvent (service limits) e
+    fits_by g =
+        let t = taken_by g in
+        numbers_fit limits e (record_numbers limits.f (length old.servers) (t.taken ++ []) [] e (t.outcome []))
+
   pub turn_wrong : judge kept.requests e ≡ verdict.Wrong →
       Turns state (setting left held servers tables downs) (setting left' held servers tables downs) kept kept place
       (turns.Over (status.BadLog place))
@@ -153,6 +162,7 @@ module _ {X : Type 0} (state : X → Server) (l : Limits) (left left' held : Opt
         Turns state (setting left held servers tables downs) (setting left' held' servers' tables' downs') kept kept'
         place (turns.Goes (place + record_len e))
     turn_goes x j w limits log old n g =
+        let fits = fits_by limits log old (suc n) g in
         let harmless = goes_harmless kept.requests e j in
         let more = since limits log old (suc n) g in
         record {
@@ -162,8 +172,8 @@ module _ {X : Type 0} (state : X → Server) (l : Limits) (left left' held : Opt
               (sym w.steps.requests)
               (Goes-then g.goes (one_goes n limits.f (length old.servers) kept.requests place
               (taken_by limits log old (suc n) g) j));
-          here = here_more g.here w.steps harmless more;
-          printed = appended_all old.held _ g.printed w.writes (text_more g.here w.steps harmless more);
+          here = here_more g.here w.steps fits harmless more;
+          printed = appended_all old.held _ g.printed w.writes (text_more g.here w.steps fits harmless more);
         }
 
     wrote_part : (limits : Limits) (log : List ℕ → Log) (old : Setting X) (n : ℕ) (f : RunErr)
@@ -174,11 +184,12 @@ module _ {X : Type 0} (state : X → Server) (l : Limits) (left left' held : Opt
         Ran state limits log old (setting left' held' servers' tables' downs') (run_status f)
     wrote_part limits log old n f rest harmless none g goes w =
         let all = Goes-then g.goes goes in
+        let fits = fits_by limits log old (suc n) g in
         let more = since limits log old (suc n) g in
-        ran_here (here_more g.here w.steps harmless more) (ends_at_write f all)
+        ran_here (here_more g.here w.steps fits harmless more) (ends_at_write f all)
         (λ e. unread_at_write all none)
-        (printed_part _ g.printed w.writes (text_more g.here w.steps harmless more))
-        (cut_here g.here w.steps harmless more w.writes.part)
+        (printed_part _ g.printed w.writes (text_more g.here w.steps fits harmless more))
+        (cut_here g.here w.steps fits harmless more w.writes.part)
 
     wanted : (limits : Limits) (log : List ℕ → Log) (old : Setting X) (n : ℕ) → downs' ≡ downs → held' ≡ held →
         Before limits log old n →
@@ -227,16 +238,17 @@ module _ {X : Type 0} (state : X → Server) (l : Limits) (left left' held : Opt
         Turns state (setting left held servers tables downs) (setting left'' held' servers' tables' downs') kept kept'
         place (turns.Over f)
     turn_ends x left'' f j w finish limits log old n g =
+        let fits = fits_by limits log old (suc n) g in
         let harmless = ends_harmless kept.requests e j in
         let more = since limits log old (suc n) g in
-        let here = here_more g.here w.steps harmless more in
+        let here = here_more g.here w.steps fits harmless more in
         ran_here here
         (subst (Ends old.left left'' log f) (append-nil (g.events ++ e ∷ []))
         (Ends-then (Goes-then g.goes (last_goes n limits.f (length old.servers) kept.requests place
         (taken_by limits log old (suc n) g) j))
         (over_finish (place + record_len e) finish)))
         (λ e. absurd (finish_no_write finish e))
-        (printed_all f (appended_all old.held _ g.printed w.writes (text_more g.here w.steps harmless more)))
+        (printed_all f (appended_all old.held _ g.printed w.writes (text_more g.here w.steps fits harmless more)))
         (cut_whole here)
 
 -- what was stepped was not wanted

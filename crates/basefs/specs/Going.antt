@@ -12,9 +12,10 @@ use Rattle.log_stream.specs.declared.ReadErr.TheVariants as read
 use Rattle.outside.specs.declared.SinkErr.{SinkErr}
 use Rattle.outside.specs.declared.SinkErr.TheVariants as sink
 use Rattle.cluster_model.specs.Moments.{Moment}
+use Rattle.cluster_model.specs.Good.{FitsEvent}
 use Rattle.cluster_model.specs.Calm.{IsHarmless}
 use Rattle.cluster_model.specs.Run.{fresh, LooseRun, AreMet}
-use Rattle.service_laws.specs.Served.{service}
+use Rattle.service_laws.specs.Served.{IsSized, service}
 use Rattle.cluster.specs.Positions.{AreLater}
 use Rattle.cluster.specs.OverBench.{Kept, IsState}
 use Rattle.cluster.specs.Steps.{ServersAreStruck}
@@ -45,6 +46,8 @@ pub record Here {X : Type 0} (state : X → Server) (limits : Limits) (before se
     (downs : List FaultPoint) (kept : Kept) (events : List Event) : Type 0 where
   pub ms : List Moment
   pub is_run : LooseRun (service limits) (length before) downs events ms
+  pub sized : IsSized limits
+  pub fits : All (FitsEvent (service limits)) events
   pub harmless : All IsHarmless events
   pub is_state : IsState state kept servers tables (end_of limits (length before) ms).state
   pub requests : kept.requests ≡ requests_of events

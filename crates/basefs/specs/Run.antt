@@ -12,7 +12,7 @@ use Rattle.cluster_model.specs.declared.Request.{Request}
 use Rattle.cluster_model.specs.Moments.{Moment}
 use Rattle.cluster_model.specs.Turns.{last}
 use Rattle.cluster_model.specs.Calm.{IsHarmless}
-use Rattle.cluster_model.specs.Run.{fresh, LooseRun, Always, IsOnce, replies, AreMet}
+use Rattle.cluster_model.specs.Run.{fresh, run, LooseRun, Always, SameUptoApart, UptoApart, nothing, IsAsPromised, IsOnce, replies, AreMet}
 use Rattle.cluster_model.specs.Served.{IsServed}
 use Rattle.service_laws.specs.Served.{service}
 use Rattle.cluster.specs.Steps.{asked_by, ServersAreStruck}
@@ -112,6 +112,11 @@ pub record Ran {X : Type 0} (state : X → Server) (limits : Limits) (log : List
   -- a write that fails stops the run: its record is the last that was stepped, and nothing is read behind it
   pub cut : IsCutAtLast limits (length old.servers) new.downs events ms printed.part
   pub unread : ended ≡ status.WriteFault → (log ends.taken).events ≡ events
+  -- Up to the last moment at which at most f replicas are unsound and no two different texts so far share a digest, the
+  -- run is the exact one, and as promised: each decision is the service's word at its place, and each sound replica's
+  -- array is that of its place.
+  pub exact : SameUptoApart (service limits) nothing ms (run (service limits) (length old.servers) new.downs events)
+  pub promised : UptoApart (service limits) nothing (IsAsPromised (service limits)) ms
   -- at every moment, whatever servers fail
   pub calm : Always (IsServed (service limits)) ms
   pub told : IsTold (end_of limits (length old.servers) ms)

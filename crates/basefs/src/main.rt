@@ -14,8 +14,9 @@ mod tests;
 mod turn;
 mod verdict;
 
+use inode_server::InodeServer;
 use nfs2_types::NoMemory;
-use outside::{MemClock, MemLink};
+use outside::{MemClock, MemLink, MemMedium};
 use outside_real::{StdSink, StdSource};
 use path_server::PathServer;
 use program::basefs;
@@ -34,6 +35,9 @@ const LIMITS: ServerLimits = ServerLimits {
     nodes: 4_099,
     bytes: 17_825_792,
 };
+
+/// The blocks of a medium for so much: 64, eight for each node, and one for each 256 bytes.
+const BLOCKS: u32 = 102_488;
 
 /// The words behind the program's name, if all of them are text.
 fn words<R: Env + AllocGlobal>(rt: &R) -> Result<Vec<String>, Status> {
@@ -61,13 +65,20 @@ fn run_over(rt: &HostRuntime, words: &[String], bench: &mut Bench) -> Result<Sta
     ))
 }
 
-/// Makes the bench, and runs the program over it. The status is an error where the program was not run.
+/// Makes the bench, and runs the program over it. Each third server is one of inodes on a medium in memory, from the
+/// first on; the others keep whole paths. The status is an error where the program was not run.
 fn start(rt: &HostRuntime) -> Result<Status, Status> {
     let words = words(rt)?;
     let mut servers: Vec<Srv> = Vec::new(rt.alloc());
-    for _server in 0..SERVERS {
-        let server = PathServer::new(rt.alloc(), LIMITS)?;
-        servers.push(Box::new(rt.alloc(), server)?)?;
+    for position in 0..SERVERS {
+        if position % 3 == 0 {
+            let medium = MemMedium::new(rt.alloc(), BLOCKS, Vec::new(rt.alloc()));
+            let server = InodeServer::new(rt.alloc(), medium, LIMITS)?;
+            servers.push(Box::new(rt.alloc(), server)?)?;
+        } else {
+            let server = PathServer::new(rt.alloc(), LIMITS)?;
+            servers.push(Box::new(rt.alloc(), server)?)?;
+        }
     }
     let status = run_over(rt, &words, &mut Bench::new(rt.alloc(), servers))?;
     Ok(status)

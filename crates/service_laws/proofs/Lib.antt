@@ -4,3 +4,5 @@ pub mod Bounds
 pub mod Reading
 pub mod Spelled
 pub mod Served
+pub mod SmallRuns
+pub mod Fits

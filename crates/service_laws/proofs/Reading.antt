@@ -21,12 +21,12 @@ use Rattle.service_laws.proofs.Bounds.{Always, of_spelled, always_then, args_wit
 
 -- Bytes in pieces
 
-bytes_front : (xs ys : List ℕ) → IsBytes (xs ++ ys) → IsBytes xs
+pub bytes_front : (xs ys : List ℕ) → IsBytes (xs ++ ys) → IsBytes xs
 bytes_front [] ys h i = omega arith
 bytes_front (x ∷ xs) ys h zero = h 0
 bytes_front (x ∷ xs) ys h (suc i) = bytes_front xs ys (λ j. h (suc j)) i
 
-bytes_behind : (xs ys : List ℕ) → IsBytes (xs ++ ys) → IsBytes ys
+pub bytes_behind : (xs ys : List ℕ) → IsBytes (xs ++ ys) → IsBytes ys
 bytes_behind [] ys h = h
 bytes_behind (x ∷ xs) ys h = bytes_behind xs ys (λ j. h (suc j))
 

@@ -1,6 +1,6 @@
 -- The second record of laws holds of the machine's answers, with the texts of entries and nodes, and with any digest of
 -- thirty-two bytes.
-use Rattle.std.proofs.Common.{◌≡◌, ℕ, ◌+◌, ◌-◌, ◌^◌, ◌<◌, ◌≤◌, Bool, true, false, List, [], ◌++◌, length, take, drop, replicate, refl, sym, ◌∙◌, ap, subst, arith, Some, None, Result, Ok, Err, length-append, length-take, length-drop}
+use Rattle.std.proofs.Common.{◌≡◌, ℕ, ◌+◌, ◌-◌, ◌^◌, ◌<◌, ◌≤◌, Bool, true, false, List, [], ◌++◌, length, take, drop, replicate, refl, sym, ◌∙◌, ap, subst, arith, Some, None, Result, Ok, Err, length-append, length-take, length-drop, ◌∷◌}
 use Rattle.std.specs.Prelude.{◌==◌, ◌&&◌, nat_le, if◌then◌else◌, set}
 use Rattle.std.specs.List.{All}
 use Rattle.std.proofs.lemmas.Bool.{and_parts, leb-true, le-leb}
@@ -33,7 +33,7 @@ use Rattle.cluster_model.specs.Right.{IsSpelled, IsLawful}
 use Rattle.dispatch.specs.Answer.{Answer, answer, stays, by_args, by_head, accepted, mount_word}
 use Rattle.service_laws.specs.Real.{real}
 use Rattle.abs_text.specs.Wordy.{IsWordy, IsGood}
-use Rattle.service_laws.specs.Text.{scratched_at, spelling}
+use Rattle.service_laws.specs.Text.{scratched_in, scratched_at, spelling}
 use Rattle.service_laws.proofs.Orderly.{orderly, answer_cases}
 use Rattle.abs_text.proofs.Apart.{text_apart}
 use Rattle.abs_text.proofs.Nodes.{parts_back}
@@ -100,9 +100,9 @@ overwritten_long offset piece bytes h =
       length-replicate {A = ℕ} (size - length bytes) 0,
     )
 
-scratched_good : (limits : Limits) (A B : List Entry) (i offset : ℕ) (bytes : List ℕ) → IsGood limits A →
-    scratched_at A i offset bytes ≡ Some B → IsGood limits B
-scratched_good limits A B i offset bytes good e = by
+in_good : (limits : Limits) (A B : List Entry) (i offset : ℕ) (bytes : List ℕ) → IsGood limits A →
+    scratched_in A i offset bytes ≡ Some B → IsGood limits B
+in_good limits A B i offset bytes good e = by
     (is_file (entry_at A i) && nat_le (offset + length bytes) (length (bytes_of (entry_at A i)))) refl e
   where
     new : Entry
@@ -164,6 +164,11 @@ scratched_good limits A B i offset bytes good e = by
         }) ≡ B = cc in
         subst (IsGood limits) same (after h))
     by false h f = absurd (cc)
+
+scratched_good : (limits : Limits) (A B : List Entry) (i offset : ℕ) (bytes : List ℕ) → IsGood limits A →
+    scratched_at A i offset bytes ≡ Some B → IsGood limits B
+scratched_good limits A B i offset [] good e = absurd (cc)
+scratched_good limits A B i offset (b ∷ bytes) good e = in_good limits A B i offset (b ∷ bytes) good e
 
 pub spelled : (limits : Limits) (k levels : ℕ) (digest : List ℕ → List ℕ) → 1 ≤ limits.n → limits.n ≡ 16 ^ levels →
     limits.n < 2 ^ 32 → limits.t < 2 ^ 32 →

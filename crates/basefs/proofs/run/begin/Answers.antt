@@ -12,11 +12,11 @@ returns-in_err-write_lines-clause-begun g c =
     c.from_residual-in_err-write_lines.ensures.1 in
     λ left. rw (p.1, p.2) (inl (begun_failed _ c.args.limits.now (kept c.in_ok-cluster.cluster) _ _
     c.args.bench.now.tables.items _ c.args.bench.now.downs.items _ c.in_ok-cluster.lines.items
-    c.in_ok-cluster.ensures.starts c.in_ok-cluster.ensures.servers left _ _ (run.Sink c.in_err-write_lines.field-0.0)
+    c.in_ok-cluster.ensures.starts c.in_ok-cluster.ensures.servers c.requires.sizes left _ _ (run.Sink c.in_err-write_lines.field-0.0)
     (writes_err _ (rw c.deref.ensures.value at c.in_err-write_lines.ensures.bytes))))
 
 pub returns-clause-begun : goal.returns-clause-begun
 returns-clause-begun g c = λ left. begun _ c.args.limits.now (kept c.in_ok-cluster.cluster) _ _
     c.args.bench.now.tables.items _ c.args.bench.now.downs.items _ c.in_ok-cluster.lines.items
-    c.in_ok-cluster.ensures.starts c.in_ok-cluster.ensures.servers left _ _ _
+    c.in_ok-cluster.ensures.starts c.in_ok-cluster.ensures.servers c.requires.sizes left _ _ _
     (writes_ok (rw c.deref.ensures.value at c.in_ok-write_lines.ensures.bytes))
