@@ -1,5 +1,4 @@
--- The changes that procedures are made of: what a call of the server, a change of the table and one of the
--- array
+-- The changes that procedures are made of: what a call of the server, a change of the table and one of the array
 -- have to say, so that tree and table go on standing for the array.
 use Rattle.std.specs.Prelude.{◌≡◌, ◌≢◌, ℕ, List, [], true, Option, Some, None, slice_get, length}
 use Rattle.std.specs.FinMap.{get}

@@ -15,9 +15,8 @@ use Rattle.conf_map.specs.Stands.{Stands, StandsValid, AreWithin, HasRoom}
 use Rattle.conf_map.specs.Tallied.{Tallied}
 use Rattle.conf_map.specs.Notice.{NoticedAll}
 
--- A call may be made at this time: server and table stand for an array that is valid for the limits, which are
--- those of
--- a service, and the server has room for every such array.
+-- A call may be made at this time: server and table stand for an array that is valid for the limits, which are those
+-- of a service, and the server has room for every such array.
 pub record CanPerform (limits : Limits) (server : Server) (table : ConfTable) (t : Time) : Type 0 where
   pub array : List Entry
   pub stands : StandsValid limits server.tree table array
@@ -25,9 +24,8 @@ pub record CanPerform (limits : Limits) (server : Server) (table : ConfTable) (t
   pub room : HasRoom limits server.limits
   pub time : is_time t ≡ true
 
--- A procedure gives the machine's result, leaves tree and table standing for its array and the table's tally
--- right, and
--- tells its objects in order.
+-- A procedure gives the machine's result, leaves tree and table standing for its array and the table's tally right,
+-- and tells its objects in order.
 pub record Performs {M : Type 0} (told_of : M → List ℕ) (noticed : M → List Entry → ℕ → M → Type 0)
     (limits : Limits) (cred : Cred) (t : Time) (call : Call) (A : List Entry)
     (result : NfsResult) (tree : Option Tree) (table : ConfTable) (old new : M) : Type 0 where

@@ -145,8 +145,7 @@ pub record StandsValid (limits : Limits) (server : Option Tree) (table : ConfTab
   pub stands : Stands server table A
   pub tallied : Tallied table A
 
--- A server that can hold every array that is valid for these limits, with the root, staging, one node more and
--- spare
+-- A server that can hold every array that is valid for these limits, with the root, staging, one node more and spare
 -- bytes.
 pub record HasRoom (limits : Limits) (most : ServerLimits) : Type 0 where
   pub nodes : limits.n + 3 ≤ most.nodes

@@ -33,7 +33,7 @@ pub enum Event {
         time: Time,
         bytes: Blob,
     },
-    /// The replica casts silence for the next request, and does not run it.
+    /// The replica passes the next request, and neither runs it nor casts a word for it.
     Skip {
         r: u32,
     },

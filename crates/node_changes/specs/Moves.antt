@@ -20,8 +20,7 @@ use Rattle.conf_map.specs.declared.table.Located.{Located}
 abbrev pub name_moves : List Entry → ℕ → List ℕ → ℕ → List ℕ → ℕ → Time → List Change
 name_moves A d name e to_name i t = rows_move A d name e (row_to to_name i (entry_at A i).generation) t
 
--- A server and a table, which stand for an array in which a name of one directory leads to an object, and
--- another
+-- A server and a table, which stand for an array in which a name of one directory leads to an object, and another
 -- directory, which does not lie below that object, lacks the other name.
 pub record CanMove (server : Server) (table : ConfTable) (A : List Entry) (name to_name : List ℕ)
     (d e o : Located)

@@ -73,9 +73,8 @@ added A d i generation name t new =
 abbrev pub with_new : List Entry → Place → ℕ → List ℕ → Time → Object → List Entry
 with_new A p generation name t new = changed (added A p.dir.index p.index generation name t new) A
 
--- A server and a table, which stand for a valid array with a null entry, and space for a new object there under
--- a new
--- name of a directory.
+-- A server and a table, which stand for a valid array with a null entry, and space for a new object there under a
+-- new name of a directory.
 pub record CanAdd (server : Server) (table : ConfTable) (A : List Entry) (name : List ℕ) (new : New)
     (p : Place) : Type 0 where
   pub limits : Limits

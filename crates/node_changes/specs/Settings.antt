@@ -61,9 +61,8 @@ abbrev pub SuitsIf : Limits → List Entry → Entry → Option ℕ → Type 0
 SuitsIf limits A e None = ⊤
 SuitsIf limits A e (Some size) = (is_file e ≡ true) × Suits limits (used A) (length (bytes_of e)) size
 
--- A server and a table, which stand for a valid array in which an object, of which the server told this, can
--- have what
--- is given.
+-- A server and a table, which stand for a valid array in which an object, of which the server told this, can have
+-- what is given.
 pub record CanSet (server : Server) (table : ConfTable) (A : List Entry) (attr : NodeAttr) (sattr : Sattr)
     (o : Located) : Type 0 where
   pub limits : Limits

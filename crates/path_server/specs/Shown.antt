@@ -9,8 +9,7 @@ abbrev pub exchanged : List ℕ → List ℕ → List ℕ → List ℕ
 exchanged a b h = if bytes_eq (take 8 h) a then b ++ drop 8 h else
     (if bytes_eq (take 8 h) b then a ++ drop 8 h else h)
 
--- The handle that is shown after so many starts, from the one inside, and the other way: it begins with their
--- number
+-- The handle that is shown after so many starts, from the one inside, and the other way: it begins with their number
 -- where the one inside begins with zeros.
 unfoldable pub shown_at : ℕ → List ℕ → List ℕ
 shown_at starts h = exchanged (replicate 8 0) (to_be_bytes w64 starts) h

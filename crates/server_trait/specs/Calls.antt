@@ -230,9 +230,8 @@ RenameErr from name to to_name t Subtree = IsSomeAnd (target t from name) (λ h.
 RenameErr from name to to_name t Refused = HasName t to to_name
 RenameErr from name to to_name t e = ⊥
 
--- The first name goes and the second leads to its node. A node that it led to loses this name. Where both names
--- are of
--- one node nothing changes.
+-- The first name goes and the second leads to its node. A node that it led to loses this name. Where both names are
+-- of one node nothing changes.
 abbrev pub renamed : Tree → List ℕ → List ℕ → List ℕ → List ℕ → List ℕ → Tree
 renamed t from name to to_name h = elim (target t to to_name) [
   | None ↦ named (unnamed t from name) to to_name h
