@@ -3,4 +3,4 @@
 
 mod laws;
 
-pub use laws::{fairness, service_is_lawful, service_runs};
+pub use laws::{fairness, service_is_lawful, service_runs, service_steps};
