@@ -216,7 +216,7 @@ module _ (S : Service) (laws : IsSpelled S) (faults : Faults) (r n : ℕ) (m : M
       (take (suc g) items ≡ take (suc g) (items_towards S c n aim)) × (length items ≤ g → end ≡ end_towards S c n aim)
   true_source_is apart j c within other (Live l) e serves g free =
       source_is j c l within e serves apart g
-      (λ low. w.goes_on j c within other (subst (ServesIn S m.state.stable m.state.root c) (sym e) serves)
+      (λ low. w.goes_on apart j c within other (subst (ServesIn S m.state.stable m.state.root c) (sym e) serves)
       (λ stage early. free stage (omega arith)))
   true_source_is apart j c within other Down e serves g free = absurd serves
   true_source_is apart j c within other (Rebuilding b') e serves g free = absurd serves

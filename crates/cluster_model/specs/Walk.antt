@@ -10,7 +10,7 @@ use Rattle.cluster_model.specs.Tree.{Item, digest_at, digests, children}
 use Rattle.cluster_model.specs.State.{Fetching, Condition, Live, Down, Rebuilding, Replica, State}
 use Rattle.cluster_model.specs.Moments.{Moment, Faults, print, replica}
 use Rattle.cluster_model.specs.Step.{FetchEnd, Missing, Forgets, Whole, aims, aimed, fetches, step}
-use Rattle.cluster_model.specs.Fair.{IsItem}
+use Rattle.cluster_model.specs.Fair.{IsApartNow, IsItem}
 use Rattle.cluster_model.specs.Loose.{IsGiven, IsPut, ServesIn}
 
 -- Numbers of one level, each with the digest that is expected there.
@@ -80,15 +80,15 @@ pub record IsWalked (S : Service) (d : List ℕ) (n : ℕ) (b : Fetching) (items
   pub ended : IsEnded S d b.array (b.got ++ items) end
 
 -- what the code's fetch of r of at most n items at the moment m is: each field tells what the code does,
--- and none supposes Apart
+-- and none but the last supposes Apart
 pub record IsWalkedFetch (S : Service) (faults : Faults) (r n : ℕ) (m : Moment) (b : Fetching)
     (items : List (Item × List ℕ)) (end : FetchEnd) : Type 0 where
   pub given : All (IsGiven S m.state r) items
   pub inside : All (λ (x : Item × List ℕ). IsItem S x.0) items
   pub walked : IsWalked S m.state.root n (aimed m.state.stable b) items end
-  -- where a source has not failed up to the stage at which the fetch ends, the number is reached or nothing
-  -- is missing
-  pub goes_on : (j : ℕ) (c : List Entry) → j < length m.state.replicas → j ≢ r →
+  -- where no two texts kept share a digest and a source has not failed up to the stage at which the fetch ends, the
+  -- number is reached or nothing is missing: were there two, one that lies could lead the fetch to what no other has
+  pub goes_on : IsApartNow S m.state → (j : ℕ) (c : List Entry) → j < length m.state.replicas → j ≢ r →
       ServesIn S m.state.stable m.state.root c (replica m.state j).condition →
       ((stage : ℕ) → stage ≤ length items → faults stage j ≡ false) →
       (n ≡ length items) ⊎ IsWholeWalk S (digests S (aimed m.state.stable b).array) S.levels
