@@ -218,7 +218,7 @@ module _ (limits : ServerLimits) (n : ℕ) (files : ℕ → Option File) (sound 
         so_far = now;
         tied = tied-more n s.so_far now t t' s.tied d (cut k f) was is_dir now_there (cut (k + 1) f).bytes now_here
             (filled-cut f is_dir filled (k + 1) (omega (arith, in_slots))) indexed_now name j kind kind_j (ap inode_of new)
-            names unlinked;
+            names unlinked (sound.not_root d k name j (in_names k (name, j) at));
         below = λ i l. now_there i (λ e. absurd (omega (arith, l, e))) ∙ s.below i l;
         here = now_here ∙ ap (option_map (cut (k + 1))) (sym is);
         above = λ i l. now_there i (λ e. absurd (omega (arith, l, e))) ∙ s.above i l;

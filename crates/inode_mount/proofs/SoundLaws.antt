@@ -25,7 +25,7 @@ use Rattle.inode_store.specs.Layout.{superblock, IsDir, names_at, used_at, AreSo
 use Rattle.inode_store.proofs.ChangeLaws.{once}
 use Rattle.inode_tree.specs.Tables.{Tables}
 use Rattle.inode_tree.specs.Sound.{IsTied, IsSound, the_tree}
-use Rattle.inode_tree.proofs.TiedLaws.{node-file, index-dir, kind-file, led-place, some_entry}
+use Rattle.inode_tree.proofs.TiedLaws.{node-file, index-dir, kind-file, led-place, linked-place, some_entry}
 use Rattle.inode_tree.proofs.SizeLaws.{names-dir, total-nodes}
 use Rattle.inode_mount.proofs.UsedLaws.{uses_as, used-as}
 
@@ -184,6 +184,12 @@ module _ (n : ℕ) (files : ℕ → Option File) (t : Tables) (tied : IsTied n f
     led = λ i k name j at.
         let s = at_slot i k name j at in
         led-place n files t tied i name (record { slot = k; inode = j }) (slot_kind i k name j s) (placed i k name j s);
+    not_root = λ i k name j at is_root.
+        let s = at_slot i k name j at in
+        let some = linked-place n files t tied i name (record { slot = k; inode = j }) (slot_kind i k name j s)
+        (placed i k name j s) in
+        let none : t.counts.links j ≡ 0 = ap t.counts.links is_root ∙ tied.top in
+        omega (arith, some, none);
     one_name = λ h i k l a b j at_k at_l dir.
         let s = at_slot h k a j at_k in
         let r = at_slot i l b j at_l in

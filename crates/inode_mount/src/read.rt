@@ -1,6 +1,6 @@
 //! A medium that holds a tree is read.
 
-ghost use Rattle.std.specs.Prelude.{◌≡◌, ◌+◌, OnOk};
+ghost use Rattle.std.specs.Prelude.{◌≡◌, ◌+◌, ◌^◌, ◌<◌, OnOk};
 ghost use Rattle.outside.specs.Causes.{WriteHasCause};
 ghost use Rattle.inode_store.specs.Layout.{HoldsTree};
 ghost use Rattle.inode_tree.specs.Planned.{epoch_of};
@@ -22,6 +22,7 @@ pub fn read_tables<M: Medium>(tree: &mut InodeTree<M>) -> Result<(), MediumErr>
         (M.content tree.old.store.medium) }
     ensures whole { OnOk result (IsWhole M.content M.size tree.new) }
     ensures epoch { OnOk result (epoch_of tree.new.tables ≡ epoch_of tree.old.tables + 1) }
+    ensures few { OnOk result (epoch_of tree.new.tables < 2 ^ 64) }
     ensures content { M.content tree.new.store.medium ≡ M.content tree.old.store.medium }
     ensures limits { tree.new.limits ≡ tree.old.limits }
     ensures area { tree.new.store.area ≡ tree.old.store.area }

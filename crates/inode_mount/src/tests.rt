@@ -95,7 +95,7 @@ fn put_name<M: Medium>(
     {
         return Err(Fail::Refused);
     }
-    if dir >= tree.tables.inodes() || inode >= tree.tables.inodes() {
+    if dir >= tree.tables.inodes() || inode >= tree.tables.inodes() || inode == 0 {
         return Err(Fail::Refused);
     }
     let Some(Kind::Dir) = tree.tables.kind(dir) else {

@@ -1,5 +1,5 @@
 -- What the tables of a tree on a medium show of it.
-use Rattle.std.proofs.Common.{◌≡◌, ◌≢◌, ℕ, ◌/◌, ◌^◌, ◌<◌, ◌≤◌, arith, true, false, List, length, Option, Some, None, IsSome, refl, sym, ◌∙◌, subst, is_some}
+use Rattle.std.proofs.Common.{◌≡◌, ◌≢◌, ℕ, ◌/◌, ◌^◌, ◌<◌, ◌≤◌, arith, true, false, List, length, Option, Some, None, IsSome, refl, sym, ap, ◌∙◌, subst, is_some}
 use Rattle.std.specs.Option.{option_map}
 use Rattle.nfs2_types.specs.declared.fattr.Kind.{Kind}
 use Rattle.nfs2_types.specs.declared.fattr.Kind.TheVariants.{File as AFile, Dir, Link}
@@ -20,7 +20,7 @@ use Rattle.inode_tree.specs.Whole.{tree_in, IsWhole}
 use Rattle.inode_tree.specs.declared.tree.InodeTree.{InodeTree}
 use Rattle.inode_tree.proofs.BoundLaws.{file-used}
 use Rattle.inode_tree.proofs.LookLaws as look
-use Rattle.inode_tree.proofs.TiedLaws.{some_is, file-kind, led-place}
+use Rattle.inode_tree.proofs.TiedLaws.{some_is, file-kind, led-place, linked-place}
 
 -- an option that is nothing
 pub none_is : {X : Type 0} (o : Option X) → is_some o ≡ false → o ≡ None
@@ -122,6 +122,13 @@ module _ {M : Type 0} (content : M → ℕ → List ℕ) (size : M → ℕ) (s :
 
     pub led_counted : p.inode < t.counts.inodes
     led_counted = let l = led_within in let same = whole.tied.inodes in omega (arith, l, same)
+
+    -- it is not the root
+    pub led_other : p.inode ≢ 0
+    led_other is_root =
+        let some = linked-place n files t whole.tied i q p is at in
+        let none : t.counts.links p.inode ≡ 0 = ap t.counts.links is_root ∙ whole.tied.top in
+        omega (arith, some, none)
 
     pub led_kind : IsSome (t.kind p.inode)
     led_kind = subst (λ o. IsSome o) (sym (whole.tied.kinds p.inode)) (by (files p.inode) led)

@@ -7,4 +7,6 @@ pub mod MoveLaws
 pub mod UnderLaws
 pub mod ReadyLaws
 pub mod LifeLaws
+pub mod StaleLaws
+pub mod StartLaws
 pub mod RowLaws

@@ -3,4 +3,5 @@ pub mod Found
 pub mod Made
 pub mod Ready
 pub mod Rows
+pub mod Served
 pub mod State

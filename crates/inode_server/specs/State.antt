@@ -1,6 +1,6 @@
 -- What a tree on a medium is to a caller, and what a call leaves of it.
-use Rattle.std.specs.Prelude.{◌≡◌, ℕ, Bool, true, List, None, Some, Result, if◌then◌else◌}
-use Rattle.server_trait.specs.Tree.{Server}
+use Rattle.std.specs.Prelude.{◌≡◌, ℕ, Bool, true, List, Option, None, Some, IsSome, Result, if◌then◌else◌}
+use Rattle.server_trait.specs.Tree.{Server, Tree, node_at}
 use Rattle.server_trait.specs.declared.server.SrvErr.{SrvErr}
 use Rattle.inode_tree.specs.Whole.{tree_in, IsWhole}
 use Rattle.inode_tree.specs.declared.tree.InodeTree.{InodeTree}
@@ -31,3 +31,8 @@ pub record Does {M T : Type 0} (content : M → ℕ → List ℕ) (size faults :
     : Type 0 where
   pub answers : call (server_of content faults true old) r (server_of content faults (stands r) new)
   pub stays : Stays content size (stands r) old new
+
+-- no handle of the first tree, if there is one, is of a node of the second
+abbrev pub NoneStays : Option Tree → Option Tree → Type 0
+NoneStays old new = (t u : Tree) → old ≡ Some t → new ≡ Some u → (h : List ℕ) → IsSome (node_at t h) →
+    node_at u h ≡ None

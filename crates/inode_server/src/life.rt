@@ -1,15 +1,15 @@
 //! A tree that is made anew, or read again.
 
-ghost use Rattle.std.specs.Prelude.{◌≡◌, ◌≤◌, ◌++◌, Bool, false, OnOk, IfErr, codes, replicate};
+ghost use Rattle.std.specs.Prelude.{◌≡◌, ◌≤◌, ◌++◌, Bool, false, Some, OnOk, IfErr, codes, replicate};
 ghost use Rattle.std.specs.Int.{w32, to_be_bytes};
 ghost use Rattle.server_trait.specs.Step.{Counts};
 ghost use Rattle.server_trait.specs.Calls.{Reboot, Wipe};
 ghost use Rattle.inode_store.specs.Layout.{superblock, HoldsTree};
 ghost use Rattle.inode_tree.specs.Sound.{IsPlanned};
-ghost use Rattle.inode_tree.specs.Whole.{IsWhole};
+ghost use Rattle.inode_tree.specs.Whole.{tree_in, IsWhole};
 ghost use Rattle.inode_server.specs.Answers.{is_kept, stands};
 ghost use Rattle.inode_server.specs.Ready.{IsReady};
-ghost use Rattle.inode_server.specs.State.{Does, server_of};
+ghost use Rattle.inode_server.specs.State.{Does, NoneStays, server_of};
 
 use crate::answers::srv_error;
 use inode_mount::{holds_tree, read_tables};
@@ -59,7 +59,8 @@ pub(crate) fn wipe<M: Medium>(tree: &mut InodeTree<M>) -> Result<(), SrvErr>
 pub(crate) fn reboot<M: Medium>(tree: &mut InodeTree<M>) -> Result<(), SrvErr>
     requires whole { IsWhole M.content M.size tree.old }
     requires name { M.content tree.old.store.medium 0 ≡ superblock tree.old.limits }
-    ensures { Does M.content M.size M.faults Reboot tree.old result tree.new }
+    ensures does { Does M.content M.size M.faults Reboot tree.old result tree.new }
+    ensures stale { OnOk result (NoneStays (Some (tree_in M.content tree.old)) (Some (tree_in M.content tree.new))) }
 {
     holds_tree(tree);
     match read_tables(tree) {

@@ -129,10 +129,6 @@ fn drop_dir<M: Medium>(
     if size > 0 {
         return Err(SrvErr::NotEmpty);
     }
-    if place.inode == 0 {
-        // No name that this server makes leads to the root; a medium with one is given up.
-        return Err(SrvErr::NoMemory);
-    }
     match drop_name(tree, within, name, place, Kind::Dir) {
         Ok(()) => Ok(()),
         Err(e) => Err(srv_error(e)),

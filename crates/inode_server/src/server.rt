@@ -1,5 +1,8 @@
 //! The server.
 
+ghost use Rattle.std.specs.Prelude.{OnOk};
+ghost use Rattle.server_trait.specs.Step.{HasTree};
+ghost use Rattle.server_trait.specs.Calls.{Reboot};
 ghost use Rattle.inode_server.specs.Ready.{IsReady};
 
 use crate::answers::has_tree;
@@ -18,7 +21,7 @@ pub struct InodeServer<M: Medium> {
 }
 
 impl<M: Medium + Drop> FileServer for InodeServer<M> {
-    ghost use Rattle.inode_server.specs.State.{server_of};
+    ghost use Rattle.inode_server.specs.State.{NoneStays, server_of};
 
     ghost state = { λ s. server_of M.content M.faults s.up s.tree };
 
@@ -126,7 +129,13 @@ impl<M: Medium + Drop> FileServer for InodeServer<M> {
         answer
     }
 
-    fn reboot(&mut self) -> Result<(), SrvErr> {
+    fn reboot(&mut self) -> Result<(), SrvErr>
+        requires { HasTree (server_of M.content M.faults self.old.up self.old.tree) }
+        ensures rebooted { Reboot (server_of M.content M.faults self.old.up self.old.tree) result
+            (server_of M.content M.faults self.new.up self.new.tree) }
+        ensures stale { OnOk result (NoneStays (server_of M.content M.faults self.old.up self.old.tree).tree
+            (server_of M.content M.faults self.new.up self.new.tree).tree) }
+    {
         let answer = life::reboot(&mut self.tree);
         self.up = has_tree(&answer);
         answer

@@ -1,5 +1,5 @@
 -- When a medium of inodes holds a tree: what its blocks are, and that what they say goes together.
-use Rattle.std.specs.Prelude.{◌≡◌, ℕ, ◌*◌, ◌%◌, ◌<◌, ◌≤◌, List, [], ◌++◌, length, slice_get, replicate, codes, Option, None, Some, IsSome, IsSomeAnd}
+use Rattle.std.specs.Prelude.{◌≡◌, ◌≢◌, ℕ, ◌*◌, ◌%◌, ◌<◌, ◌≤◌, List, [], ◌++◌, length, slice_get, replicate, codes, Option, None, Some, IsSome, IsSomeAnd}
 use Rattle.std.specs.Int.{w32, to_be_bytes}
 use Rattle.nfs2_types.specs.declared.fattr.Kind.TheVariants.{File as AFile, Dir, Link}
 use Rattle.server_trait.specs.declared.server.ServerLimits.{ServerLimits}
@@ -37,13 +37,15 @@ used_at (Some f) = elim f.kind as (λ _. ℕ) [
 ]
 
 -- The files of so many inodes go together: inode 0 is a directory; a directory's bytes are whole slots; its names are
--- apart, and each leads to a used inode; a directory has one name at most; and all bytes in use are within the limits.
+-- apart, and each leads to a used inode, but none to inode 0; a directory has one name at most; and all bytes in use
+-- are within the limits.
 pub record AreSound (limits : ServerLimits) (n : ℕ) (files : ℕ → Option File) : Type 0 where
   pub root : IsDir (files 0)
   pub filled : (i : ℕ) (f : File) → files i ≡ Some f → f.kind ≡ Dir → length f.bytes % 288 ≡ 0
   pub apart : (i k l : ℕ) (name : List ℕ) (a b : ℕ) → slice_get (names_at (files i)) k ≡ Some (name, a) →
       slice_get (names_at (files i)) l ≡ Some (name, b) → k ≡ l
   pub led : (i k : ℕ) (name : List ℕ) (j : ℕ) → slice_get (names_at (files i)) k ≡ Some (name, j) → IsSome (files j)
+  pub not_root : (i k : ℕ) (name : List ℕ) (j : ℕ) → slice_get (names_at (files i)) k ≡ Some (name, j) → j ≢ 0
   pub one_name : (h i k l : ℕ) (a b : List ℕ) (j : ℕ) → slice_get (names_at (files h)) k ≡ Some (a, j) →
       slice_get (names_at (files i)) l ≡ Some (b, j) → IsDir (files j) → (h ≡ i) × (k ≡ l)
   pub within : sum_to n (λ i. used_at (files i)) ≤ limits.bytes

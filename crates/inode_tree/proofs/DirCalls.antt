@@ -126,7 +126,7 @@ module _ {M : Type 0} (content : M → ℕ → List ℕ) (size : M → ℕ) (s :
       others_led q ne = ap (λ f. inode_of (f q)) here ∙ others q ne ∙ ap (λ f. inode_of (f q)) (sym place-is)
 
       module _ (leads : inode_by m' name ≡ Some j) (rows : Named (with_index s.tables dir m') t' dir j (is_dir_kind k))
-          (new : inode_of (t.place dir name) ≡ None) (unlinked : k ≡ Dir → t.counts.links j ≡ 0)
+          (new : inode_of (t.place dir name) ≡ None) (unlinked : k ≡ Dir → t.counts.links j ≡ 0) (not_top : j ≢ 0)
           (room : t.counts.used + 512 ≤ s.limits.bytes) where
         names : Names t t' dir name j (is_dir_kind k)
         names = record {
@@ -145,13 +145,13 @@ module _ {M : Type 0} (content : M → ℕ → List ℕ) (size : M → ℕ) (s :
             store'.map t'
         named-whole = whole-named s.limits s.store.area s.store.inodes (content s.store.medium) (size s.store.medium)
             s.store.map t sound store'.area store'.inodes (size store'.medium) ea en es (content store'.medium)
-            store'.map t' dir within file.0 file.1 file.2 bytes filled index now name j k kind_j new names unlinked room
+            store'.map t' dir within file.0 file.1 file.2 bytes filled index now name j k kind_j new names unlinked not_top room
 
         pub named-held : the_tree store'.inodes (files_of store'.area store'.inodes (content store'.medium)) t' ≡
             named (tree_in content s) (t.handle dir) name (t.handle j)
         named-held = held-named s.limits s.store.area s.store.inodes (content s.store.medium) (size s.store.medium)
             s.store.map t sound store'.area store'.inodes (size store'.medium) ea en es (content store'.medium)
-            store'.map t' dir within file.0 file.1 file.2 bytes filled index now name j k kind_j new names unlinked room
+            store'.map t' dir within file.0 file.1 file.2 bytes filled index now name j k kind_j new names unlinked not_top room
 
       module _ (gone : inode_by m' name ≡ None) (rows : Unnamed (with_index s.tables dir m') t' dir j (is_dir_kind k))
           (leads : inode_of (t.place dir name) ≡ Some j) where

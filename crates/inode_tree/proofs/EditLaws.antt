@@ -161,6 +161,7 @@ module _ (n : ℕ) (files files' : ℕ → Option File) (t t' : Tables) (tied : 
       | inr ne ↦ tied.filled j x (sym (same j ne) ∙ at) to_dir
     ];
     root = sym (kinds_now 0) ∙ ap (λ f. f 0) resizes.kinds ∙ tied.kinds 0 ∙ tied.root;
+    top = resizes.counts.links 0 ∙ tied.top;
     parents = record {
       up = λ j to_dir linked.
           let kept = resizes.counts.links j in

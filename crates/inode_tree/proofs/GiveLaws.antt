@@ -168,5 +168,6 @@ module _ (n : ℕ) (files files' : ℕ → Option File) (t t' : Tables) (tied : 
     free = free_new;
     filled = λ j x at is_dir. tied.filled j x (sym (same j (not_i j (some_is at))) ∙ at) is_dir;
     root = ap (option_map (λ (f : File). f.kind)) (same 0 (λ at. not_root (sym at))) ∙ tied.root;
+    top = gives.counts.links_other 0 (λ at. not_root (sym at)) ∙ tied.top;
     parents = parents_new;
   }

@@ -156,5 +156,12 @@ module _ (n : ℕ) (files files' : ℕ → Option File) (t t' : Tables) (tied : 
     );
     filled = filled_now n files files' t tied i f was is_dir same bytes here filled;
     root = sym (kinds_now n files files' t tied i f was is_dir same bytes here 0) ∙ tied.kinds 0 ∙ tied.root;
+    top = elim (one_or_not 0 j) as (λ _. t'.counts.links 0 ≡ 0) [
+      | inl at ↦
+          let less = names.counts.links_here in
+          let none : t.counts.links j ≡ 0 = ap t.counts.links (sym at) ∙ tied.top in
+          absurd (omega (arith, less, none))
+      | inr ne ↦ names.counts.links_other 0 ne ∙ tied.top
+    ];
     parents = parents_now;
   }

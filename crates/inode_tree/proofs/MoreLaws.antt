@@ -26,7 +26,7 @@ module _ (n : ℕ) (files files' : ℕ → Option File) (t t' : Tables) (tied : 
     (here : files' i ≡ Some (record f { bytes = bytes })) (filled : length bytes % 288 ≡ 0)
     (index' : IsIndexOf (t'.place i) (slots_in (length bytes / 288) bytes)) (name : List ℕ) (j : ℕ) (k : Kind)
     (kind_j : t.kind j ≡ Some k) (new : inode_of (t.place i name) ≡ None) (names : Names t t' i name j (is_dir_kind k))
-    (unlinked : k ≡ Dir → t.counts.links j ≡ 0) where
+    (unlinked : k ≡ Dir → t.counts.links j ≡ 0) (other : j ≢ 0) where
   abbrev slots : Slots
   slots = slots_in (length f.bytes / 288) f.bytes
 
@@ -174,5 +174,6 @@ module _ (n : ℕ) (files files' : ℕ → Option File) (t t' : Tables) (tied : 
     );
     filled = filled_now n files files' t tied i f was is_dir same bytes here filled;
     root = sym (kinds_now n files files' t tied i f was is_dir same bytes here 0) ∙ tied.kinds 0 ∙ tied.root;
+    top = names.counts.links_other 0 (λ at. other (sym at)) ∙ tied.top;
     parents = parents_now;
   }

@@ -101,6 +101,7 @@ module _ (n : ℕ) (files : ℕ → Option File) (f : File) (at_root : files 0 �
         let none : x.bytes ≡ [] = ap (λ (f : File). f.bytes) (some_same at (ap files here ∙ at_root)) ∙ empty in
         ap (λ (b : List ℕ). length b % 288) none;
     root = ap (option_map (λ (f : File). f.kind)) at_root ∙ ap Some is_dir;
+    top = no_links 0 refl;
     parents = record {
       up = λ i to_dir linked. absurd (let none = no_links i (dir_root i to_dir) in omega (arith, none, linked));
       only = λ i q p in_dir leads to_dir. absurd (no_place i q p (dir_root i in_dir) leads);

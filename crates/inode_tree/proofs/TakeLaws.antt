@@ -292,5 +292,6 @@ module _ (n : ℕ) (files files' : ℕ → Option File) (t t' : Tables) (tied : 
     free = free_new;
     filled = filled_new;
     root = ap (option_map (λ (f : File). f.kind)) (same 0 (λ at. not_i 0 root_some (at))) ∙ tied.root;
+    top = takes.counts.links_other 0 (λ at. not_i 0 root_some (at)) ∙ tied.top;
     parents = parents_new;
   }

@@ -174,19 +174,19 @@ module _ (limits : ServerLimits) (area : Area) (n : ℕ) (c : Blocks) (size : �
       dir-before = files_of-within area' n' i c in_range ∙ ap (λ a. file_at a c i) ea ∙ was
 
       module _ (new : inode_of (t.place i name) ≡ None) (names : Names t t' i name j (is_dir_kind k))
-          (unlinked : k ≡ Dir → t.counts.links j ≡ 0) (room : t.counts.used + 512 ≤ limits.bytes) where
+          (unlinked : k ≡ Dir → t.counts.links j ≡ 0) (other : j ≢ 0) (room : t.counts.used + 512 ≤ limits.bytes) where
         pub whole-named : IsSound limits area' n' c' size' m' t'
         whole-named = whole (Some (record f { bytes = bytes })) becomes
             (tied-more n' (files_of area' n' c) (files_of area' n' c') t t' again.tied i f dir-before is_dir
             (others (Some (record f { bytes = bytes })) becomes) bytes (here (Some (record f { bytes = bytes })) becomes)
-            filled index' name j k kind_j new names unlinked)
+            filled index' name j k kind_j new names unlinked other)
             (let more = names.counts.used in omega (arith, more, room))
 
         pub held-named : the_tree n' (files_of area' n' c') t' ≡
             named (the_tree n (files_of area n c) t) (t.handle i) name (t.handle j)
         held-named = tree-more n' (files_of area' n' c) (files_of area' n' c') t t' again.tied i f dir-before is_dir
             (others (Some (record f { bytes = bytes })) becomes) bytes (here (Some (record f { bytes = bytes })) becomes)
-            filled index' name j k kind_j new names unlinked
+            filled index' name j k kind_j new names unlinked other
             ∙ ap (λ x. named x (t.handle i) name (t.handle j)) tree-again
 
       module _ (leads : inode_of (t.place i name) ≡ Some j) (names : Unnames t t' i name j (is_dir_kind k)) where

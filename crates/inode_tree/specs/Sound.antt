@@ -45,7 +45,8 @@ abbrev pub the_tree : ℕ → (ℕ → Option AFile) → Tables → Tree
 the_tree n files t = tree_of t.handle n (table_of files)
 
 -- The tables are those of the files: inodes have handles of their own; each directory's names are indexed, and lead to
--- used inodes; the counts and the kinds are right; what has no kind is free; a directory's bytes are whole slots.
+-- used inodes, but none to inode 0; the counts and the kinds are right; what has no kind is free; a directory's bytes
+-- are whole slots.
 pub record IsTied (n : ℕ) (files : ℕ → Option AFile) (t : Tables) : Type 0 where
   pub inodes : t.counts.inodes ≡ n
   pub apart : (i j : ℕ) → i < n → j < n → t.handle i ≡ t.handle j → i ≡ j
@@ -60,6 +61,7 @@ pub record IsTied (n : ℕ) (files : ℕ → Option AFile) (t : Tables) : Type 0
   pub filled : (i : ℕ) (f : AFile) → files i ≡ Some f → f.kind ≡ Dir →
       length f.bytes % 288 ≡ 0
   pub root : kind_at files 0 ≡ Some Dir
+  pub top : t.counts.links 0 ≡ 0
   pub parents : AreParents t
 
 -- The medium has the blocks that the limits ask for, its inodes stand beside its free blocks, the tables are those of

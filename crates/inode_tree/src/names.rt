@@ -19,7 +19,8 @@ use nfs2_types::Kind;
 use outside::{Medium, MediumErr};
 
 impl<M: Medium> InodeTree<M> {
-    /// Gives a directory a name that it lacks, which leads to a node of a kind. To a directory no other name leads.
+    /// Gives a directory a name that it lacks, which leads to a node of a kind, but not to the root. To a directory no
+    /// other name leads.
     pub fn add_name(
         &mut self,
         dir: u32,
@@ -34,6 +35,7 @@ impl<M: Medium> InodeTree<M> {
         requires name { is_name name.now ≡ true }
         requires new { inode_of ((tables_of self.old.tables).place dir name.now) ≡ None }
         requires unlinked { kind ≡ Dir → (tables_of self.old.tables).counts.links inode ≡ 0 }
+        requires other { inode ≢ 0 }
         requires room { (tables_of self.old.tables).counts.used + 512 ≤ self.old.limits.bytes }
         ensures whole { OnOk result (IsWhole M.content M.size self.new) }
         ensures node { OnOk result (tree_in M.content self.new ≡ named (tree_in M.content self.old)

@@ -3,6 +3,7 @@ use Rattle.server_trait.specs.Calls.{Make}
 use Rattle.server_trait.specs.declared.server.ServerLimits.{ServerLimits}
 use Rattle.server_trait.specs.declared.server.SrvErr.TheVariants.{Full}
 use Rattle.server_trait.proofs.SoftLaws.{make_soft}
+use Rattle.server_trait.proofs.TreeLaws.{some_none}
 use Rattle.inode_store.specs.Held.{files_of}
 use Rattle.inode_tree.specs.Changes.{inode_of}
 use Rattle.inode_tree.specs.Kept.{tables_of}
@@ -62,6 +63,12 @@ pub add_name-requires-clause-unlinked : goal.add_name-requires-clause-unlinked
 add_name-requires-clause-unlinked g c is =
     let makes = rw c.in-Ok-Some.field-0-is at c.in-Ok-Some.ensures.node in
     makes.unlinked
+
+pub add_name-requires-clause-other : goal.add_name-requires-clause-other
+add_name-requires-clause-other g c is_root =
+    let tied = c.requires.whole.tied in
+    let makes = rw c.in-Ok-Some.field-0-is at c.in-Ok-Some.ensures.node in
+    some_none (ap (tables_of c.args.tree.now.tables).kind is_root ∙ tied.kinds 0 ∙ tied.root) makes.was_free
 
 pub add_name-requires-clause-room : goal.add_name-requires-clause-room
 add_name-requires-clause-room g c =

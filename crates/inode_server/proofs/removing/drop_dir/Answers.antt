@@ -7,8 +7,8 @@ use Rattle.server_trait.proofs.NameSoftLaws.{rmdir_soft}
 use Rattle.server_trait.proofs.TreeLaws.{is_some_and}
 use Rattle.inode_tree.specs.Kept.{tables_of}
 use Rattle.inode_tree.specs.Whole.{tree_in}
-use Rattle.inode_server.proofs.CallLaws.{same_refl, alike_refl, refused, broke, spent, did}
-use Rattle.inode_server.proofs.FoundLaws.{has, lacks, leads, none_is, not_dir, is_dir, led_kind, led_counted, within, file_at-kind, in_store, from_store}
+use Rattle.inode_server.proofs.CallLaws.{same_refl, refused, broke, did}
+use Rattle.inode_server.proofs.FoundLaws.{has, lacks, leads, none_is, not_dir, is_dir, led_other, within, file_at-kind, in_store, from_store}
 use Rattle.inode_server.proofs.FoundLaws as found
 use Rattle.inode_server.proofs.MoveLaws.{rmdir_call, removed, has_names, no_names, no_bytes, not_bare}
 use Rattle.inode_server.proofs.removing.drop_dir.Goals as goal
@@ -21,11 +21,6 @@ returns-then-size-gt0 g c =
     (is_some_and (HasNames (tree_in g.M.Medium.content s)) (leads g.M.Medium.content g.M.Medium.size s c.requires.whole c.args.dir.now c.args.within found.handle found.kind_is
     c.args.name.now c.args.place c.requires.there) (has_names g.M.Medium.content g.M.Medium.size s c.requires.whole c.args.place.inode c.requires.node c.args.size
     c.requires.size (let some = c.if-size-gt0.true in omega (arith, some)))) (same_refl g.M.Medium.content g.M.Medium.size g.M.Medium.faults s) c.requires.whole
-
-pub returns-then-place-eq0 : goal.returns-then-place-eq0
-returns-then-place-eq0 g c =
-    let s = c.args.tree.now in
-    spent g.M.Medium.content g.M.Medium.size g.M.Medium.faults (λ a. Rmdir a c.args.dir.now c.args.name.now) s (rmdir_call g.M.Medium.content g.M.Medium.faults s c.args.dir.now c.args.name.now) s (alike_refl g.M.Medium.size s) refl
 
 pub drop_name-requires-clause-within : goal.drop_name-requires-clause-within
 drop_name-requires-clause-within g c =
@@ -45,6 +40,12 @@ drop_name-requires-clause-another g c same =
     not_bare g.M.Medium.content g.M.Medium.size s c.requires.whole c.args.dir.now c.args.name.now c.args.within c.requires.dir.handle c.requires.dir.kind_is c.args.place c.requires.there f.0 f.1
     (no_bytes g.M.Medium.content g.M.Medium.size s c.requires.whole c.args.place.inode c.requires.node c.args.size c.requires.size
     (omega (arith, none)) f.0 (in_store g.M.Medium.content g.M.Medium.size s c.requires.whole c.args.place.inode f.0 (ap (found.files g.M.Medium.content g.M.Medium.size s c.requires.whole) same ∙ f.1)))
+
+pub drop_name-requires-clause-other : goal.drop_name-requires-clause-other
+drop_name-requires-clause-other g c =
+    let s = c.args.tree.now in
+    led_other g.M.Medium.content g.M.Medium.size s c.requires.whole c.args.within c.requires.dir.kind_is c.args.name.now
+    c.args.place c.requires.there
 
 pub drop_name-requires-clause-bare : goal.drop_name-requires-clause-bare
 drop_name-requires-clause-bare g c f is is_dir =

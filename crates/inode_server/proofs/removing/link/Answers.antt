@@ -4,6 +4,7 @@ use Rattle.server_trait.specs.Calls.{Link as LinkCall}
 use Rattle.server_trait.specs.Tree.{named}
 use Rattle.server_trait.specs.declared.server.SrvErr.TheVariants.{Exists, Full}
 use Rattle.server_trait.proofs.NameSoftLaws.{link_soft}
+use Rattle.server_trait.proofs.TreeLaws.{some_same}
 use Rattle.inode_store.specs.Held.{files_of}
 use Rattle.inode_tree.specs.Changes.{inode_of}
 use Rattle.inode_tree.specs.Kept.{tables_of}
@@ -72,6 +73,12 @@ add_name-requires-clause-new g c =
 pub add_name-requires-clause-unlinked : goal.add_name-requires-clause-unlinked
 add_name-requires-clause-unlinked g c is =
     absurd (c.in_ok-inode.ensures.1 is)
+
+pub add_name-requires-clause-other : goal.add_name-requires-clause-other
+add_name-requires-clause-other g c is_root =
+    let tied = c.requires.whole.tied in
+    let leaf = c.in_ok-inode.ensures in
+    leaf.1 (some_same leaf.0.kind_is (ap (tables_of c.args.tree.now.tables).kind is_root ∙ tied.kinds 0 ∙ tied.root))
 
 pub add_name-requires-clause-room : goal.add_name-requires-clause-room
 add_name-requires-clause-room g c =

@@ -3,6 +3,7 @@ use Rattle.server_trait.specs.Tree.{named}
 use Rattle.server_trait.specs.declared.server.ServerLimits.{ServerLimits}
 use Rattle.inode_tree.specs.Kept.{tables_of}
 use Rattle.inode_tree.specs.Whole.{tree_in}
+use Rattle.inode_server.proofs.FoundLaws.{led_other}
 use Rattle.inode_server.proofs.MoveLaws.{still_new, still_room, now_unlinked}
 use Rattle.inode_server.proofs.renaming.move_name.Goals as goal
 
@@ -29,6 +30,11 @@ pub add_name-requires-clause-unlinked : goal.add_name-requires-clause-unlinked
 add_name-requires-clause-unlinked g c is =
     now_unlinked g.M.Medium.content g.M.Medium.size c.args.tree.now c.requires.whole (tables_of c.remove_name.new.self.tables) c.args.from c.args.name.now
     c.args.place c.args.kind c.in_ok-remove_name.ensures.rows c.requires.node is
+
+pub add_name-requires-clause-other : goal.add_name-requires-clause-other
+add_name-requires-clause-other g c =
+    led_other g.M.Medium.content g.M.Medium.size c.args.tree.now c.requires.whole c.args.from c.requires.from c.args.name.now
+    c.args.place c.requires.there
 
 pub add_name-requires-clause-room : goal.add_name-requires-clause-room
 add_name-requires-clause-room g c =

@@ -1,12 +1,22 @@
-use Rattle.inode_server.proofs.ReadyLaws.{ready}
+use Rattle.inode_server.proofs.StartLaws.{holds, has-room, is-small, is-limited}
 use Rattle.inode_server.proofs.server.InodeServer.into_medium.Goals as goal
 
-pub holds_tree-requires-clause-whole : goal.holds_tree-requires-clause-whole
-holds_tree-requires-clause-whole g c =
+pub returns-clause-holds : goal.returns-clause-holds
+returns-clause-holds g c t is =
     let s = c.args.self in
-    (ready g.M.Medium.content g.M.Medium.size g.M.Medium.faults s.up s.tree s.ready).whole c.if-up.true
+    rw c.into_medium.ensures (holds g.M.Medium.content g.M.Medium.size g.M.Medium.faults s.up s.tree s.ready t is)
 
-pub holds_tree-requires-clause-name : goal.holds_tree-requires-clause-name
-holds_tree-requires-clause-name g c =
+pub returns-clause-room : goal.returns-clause-room
+returns-clause-room g c =
     let s = c.args.self in
-    (ready g.M.Medium.content g.M.Medium.size g.M.Medium.faults s.up s.tree s.ready).name c.if-up.true
+    rw c.into_medium.ensures (has-room g.M.Medium.content g.M.Medium.size g.M.Medium.faults s.up s.tree s.ready)
+
+pub returns-clause-small : goal.returns-clause-small
+returns-clause-small g c =
+    let s = c.args.self in
+    rw c.into_medium.ensures (is-small g.M.Medium.content g.M.Medium.size g.M.Medium.faults s.up s.tree s.ready)
+
+pub returns-clause-limited : goal.returns-clause-limited
+returns-clause-limited g c =
+    let s = c.args.self in
+    is-limited g.M.Medium.content g.M.Medium.size g.M.Medium.faults s.up s.tree s.ready

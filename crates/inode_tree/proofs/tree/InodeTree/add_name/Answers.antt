@@ -86,7 +86,7 @@ returns-clause-whole g c =
     c.args.name.now c.args.inode c.args.kind c.requires.node
     (λ q ne. e.names q (λ at. ne (at ∙ c.in-Ok.ensures.items)))
     (ap (λ q. inode_by c.add_name.new.index q) (sym c.in-Ok.ensures.items) ∙ e.here) rows c.requires.new
-    c.requires.unlinked c.requires.room
+    c.requires.unlinked c.requires.other c.requires.room
 
 pub returns-clause-node : goal.returns-clause-node
 returns-clause-node g c =
@@ -105,7 +105,7 @@ returns-clause-node g c =
     c.args.name.now c.args.inode c.args.kind c.requires.node
     (λ q ne. e.names q (λ at. ne (at ∙ c.in-Ok.ensures.items)))
     (ap (λ q. inode_by c.add_name.new.index q) (sym c.in-Ok.ensures.items) ∙ e.here) rows c.requires.new
-    c.requires.unlinked c.requires.room
+    c.requires.unlinked c.requires.other c.requires.room
 
 pub returns-clause-first : goal.returns-clause-first
 returns-clause-first g c = c.in_ok-add_name.ensures.file.changes.first
