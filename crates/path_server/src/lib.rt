@@ -11,6 +11,3 @@ mod tree;
 
 pub use laws::{no_faults, within_limits};
 pub use server::PathServer;
-
-#[cfg(test)]
-mod tests;

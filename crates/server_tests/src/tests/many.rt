@@ -3,10 +3,10 @@
 ghost use Rattle.std.specs.Prelude.{OnOk};
 ghost use Rattle.server_trait.specs.Step.{HasTree};
 
-use super::case::{created, found, handle, listed, made};
-use super::renames::renamed;
-use crate::PathServer;
+use super::calls::{created, found, listed, made, renamed};
+use super::case::handle;
 use nfs2_types::Handle;
+use path_server::PathServer;
 use server_trait::{FileServer, ServerLimits, Srv};
 use std::alloc::Global;
 use std::test::Fail;

@@ -1,46 +1,14 @@
-//! Calls on a boxed server, with what they are to answer.
+//! Calls on a boxed server, each with its answer or with the name of its error.
 
 ghost use Rattle.std.specs.Prelude.{◌≡◌, ◌≤◌, ◌+◌, true, OnOk, length};
 ghost use Rattle.server_trait.specs.Step.{HasTree};
 
-use super::renames::renamed;
-use crate::PathServer;
-use crate::node::handle_of;
-use nfs2_types::{Handle, Kind, is_bad, is_dot};
-use server_trait::{FileServer, Listed, NodeAttr, ServerLimits, Srv, SrvErr};
-use std::alloc::Global;
+use nfs2_types::{Handle, is_bad, is_dot};
+use server_trait::{FileServer, Listed, NodeAttr, Srv, SrvErr};
 use std::test::Fail;
 
 /// What a call answers, or why it does not.
 pub type Answer<T> = Result<T, &'static str>;
-
-/// A call with what it is to answer. Nodes go by their serial numbers: the root has 1, and each new node the next. Each
-/// stands at a place of its own, and a node that has the place of one that went has a hundred times its number besides.
-#[derive(Clone, Copy)]
-pub enum Case {
-    Mkdir(u64, &'static [u8], Answer<u64>),
-    Create(u64, &'static [u8], Answer<u64>),
-    Symlink(u64, &'static [u8], &'static [u8], Answer<u64>),
-    Lookup(u64, &'static [u8], Answer<u64>),
-    List(u64, Answer<&'static [(&'static [u8], u64)]>),
-    Write(u64, u32, &'static [u8], Answer<u32>),
-    SetSize(u64, u32, Answer<()>),
-    Read(u64, u32, u32, Answer<&'static [u8]>),
-    ReadLink(u64, Answer<&'static [u8]>),
-    Link(u64, u64, &'static [u8], Answer<()>),
-    Remove(u64, &'static [u8], Answer<()>),
-    Rmdir(u64, &'static [u8], Answer<()>),
-    Rename(u64, &'static [u8], u64, &'static [u8], Answer<()>),
-    SetAttr(u64, u32, u32, u32),
-    Attr(u64, Answer<(Kind, u32, u32, u32, u32, u32)>),
-}
-
-/// The handle of a node.
-pub fn handle(node: u64) -> Handle {
-    let serial = node % 100;
-    let first = if node < 100 { serial } else { node / 100 };
-    handle_of(serial, first.saturating_sub(1) as usize)
-}
 
 /// The handle of a new directory.
 pub fn made(server: &mut Srv, dir: &Handle, name: &[u8]) -> Result<Answer<Handle>, Fail>
@@ -79,7 +47,12 @@ pub fn created(server: &mut Srv, dir: &Handle, name: &[u8]) -> Result<Answer<Han
 }
 
 /// The handle of a new link.
-fn linked(server: &mut Srv, dir: &Handle, name: &[u8], text: &[u8]) -> Result<Answer<Handle>, Fail>
+pub fn linked(
+    server: &mut Srv,
+    dir: &Handle,
+    name: &[u8],
+    text: &[u8],
+) -> Result<Answer<Handle>, Fail>
     requires { HasTree (⟦<Srv as FileServer>⟧.state server.old) }
     ensures { OnOk result (HasTree (⟦<Srv as FileServer>⟧.state server.new)) }
 {
@@ -127,7 +100,7 @@ pub fn listed(server: &mut Srv, dir: &Handle) -> Result<Answer<Vec<Listed>>, Fai
 }
 
 /// Gives a node one name more.
-fn named(server: &mut Srv, node: &Handle, dir: &Handle, name: &[u8]) -> Result<Answer<()>, Fail>
+pub fn named(server: &mut Srv, node: &Handle, dir: &Handle, name: &[u8]) -> Result<Answer<()>, Fail>
     requires { HasTree (⟦<Srv as FileServer>⟧.state server.old) }
     ensures { OnOk result (HasTree (⟦<Srv as FileServer>⟧.state server.new)) }
 {
@@ -146,7 +119,7 @@ fn named(server: &mut Srv, node: &Handle, dir: &Handle, name: &[u8]) -> Result<A
 }
 
 /// Takes out a name of a file or a link.
-fn unnamed(server: &mut Srv, dir: &Handle, name: &[u8]) -> Result<Answer<()>, Fail>
+pub fn unnamed(server: &mut Srv, dir: &Handle, name: &[u8]) -> Result<Answer<()>, Fail>
     requires { HasTree (⟦<Srv as FileServer>⟧.state server.old) }
     ensures { OnOk result (HasTree (⟦<Srv as FileServer>⟧.state server.new)) }
 {
@@ -164,7 +137,7 @@ fn unnamed(server: &mut Srv, dir: &Handle, name: &[u8]) -> Result<Answer<()>, Fa
 }
 
 /// Takes out the name of a directory.
-fn emptied(server: &mut Srv, dir: &Handle, name: &[u8]) -> Result<Answer<()>, Fail>
+pub fn emptied(server: &mut Srv, dir: &Handle, name: &[u8]) -> Result<Answer<()>, Fail>
     requires { HasTree (⟦<Srv as FileServer>⟧.state server.old) }
     ensures { OnOk result (HasTree (⟦<Srv as FileServer>⟧.state server.new)) }
 {
@@ -182,7 +155,12 @@ fn emptied(server: &mut Srv, dir: &Handle, name: &[u8]) -> Result<Answer<()>, Fa
 }
 
 /// How much of a piece was written.
-fn wrote(server: &mut Srv, file: &Handle, offset: u32, piece: &[u8]) -> Result<Answer<u32>, Fail>
+pub fn wrote(
+    server: &mut Srv,
+    file: &Handle,
+    offset: u32,
+    piece: &[u8],
+) -> Result<Answer<u32>, Fail>
     requires { HasTree (⟦<Srv as FileServer>⟧.state server.old) }
     ensures { OnOk result (HasTree (⟦<Srv as FileServer>⟧.state server.new)) }
 {
@@ -199,7 +177,7 @@ fn wrote(server: &mut Srv, file: &Handle, offset: u32, piece: &[u8]) -> Result<A
 }
 
 /// Gives a file a size.
-fn sized(server: &mut Srv, file: &Handle, size: u32) -> Result<Answer<()>, Fail>
+pub fn sized(server: &mut Srv, file: &Handle, size: u32) -> Result<Answer<()>, Fail>
     requires { HasTree (⟦<Srv as FileServer>⟧.state server.old) }
     ensures { OnOk result (HasTree (⟦<Srv as FileServer>⟧.state server.new)) }
 {
@@ -216,7 +194,7 @@ fn sized(server: &mut Srv, file: &Handle, size: u32) -> Result<Answer<()>, Fail>
 }
 
 /// The bytes of a file from an offset on.
-fn bytes_at(
+pub fn bytes_at(
     server: &mut Srv,
     file: &Handle,
     offset: u32,
@@ -234,7 +212,7 @@ fn bytes_at(
 }
 
 /// The text of a link.
-fn text_of(server: &mut Srv, link: &Handle) -> Result<Answer<Vec<u8>>, Fail>
+pub fn text_of(server: &mut Srv, link: &Handle) -> Result<Answer<Vec<u8>>, Fail>
     requires { HasTree (⟦<Srv as FileServer>⟧.state server.old) }
     ensures { OnOk result (HasTree (⟦<Srv as FileServer>⟧.state server.new)) }
 {
@@ -247,7 +225,7 @@ fn text_of(server: &mut Srv, link: &Handle) -> Result<Answer<Vec<u8>>, Fail>
 }
 
 /// Sets the mode and the owners of a node.
-fn attr_set(
+pub fn attr_set(
     server: &mut Srv,
     node: &Handle,
     mode: u32,
@@ -265,7 +243,7 @@ fn attr_set(
 }
 
 /// The attributes of a node.
-fn attr_of(server: &mut Srv, node: &Handle) -> Result<Answer<NodeAttr>, Fail>
+pub fn attr_of(server: &mut Srv, node: &Handle) -> Result<Answer<NodeAttr>, Fail>
     requires { HasTree (⟦<Srv as FileServer>⟧.state server.old) }
     ensures { OnOk result (HasTree (⟦<Srv as FileServer>⟧.state server.new)) }
 {
@@ -276,116 +254,30 @@ fn attr_of(server: &mut Srv, node: &Handle) -> Result<Answer<NodeAttr>, Fail>
     }
 }
 
-/// Whether bytes are as wanted.
-fn same_bytes(answer: Answer<Vec<u8>>, wanted: Answer<&[u8]>) -> bool {
-    match (answer, wanted) {
-        (Ok(bytes), Ok(wanted)) => bytes.as_slice() == wanted,
-        (Err(error), Err(wanted)) => error == wanted,
-        _ => false,
-    }
-}
-
-/// Whether names are as wanted, in any order.
-fn same_names(answer: Answer<Vec<Listed>>, wanted: Answer<&[(&[u8], u64)]>) -> bool {
-    match (answer, wanted) {
-        (Ok(rows), Ok(wanted)) => {
-            rows.len() == wanted.len()
-                && wanted.iter().all(|(name, serial)| {
-                    let node = handle(*serial);
-                    rows.iter()
-                        .any(|row| row.name.as_slice() == *name && row.handle == node)
-                })
-        }
-        (Err(error), Err(wanted)) => error == wanted,
-        _ => false,
-    }
-}
-
-/// Whether a node is as wanted: its kind, mode and owners, its size and its links.
-fn same_attr(answer: Answer<NodeAttr>, wanted: Answer<(Kind, u32, u32, u32, u32, u32)>) -> bool {
-    match (answer, wanted) {
-        (Ok(a), Ok(wanted)) => (a.kind, a.mode, a.uid, a.gid, a.size, a.links) == wanted,
-        (Err(error), Err(wanted)) => error == wanted,
-        _ => false,
-    }
-}
-
-/// Whether a handle is that of a serial number.
-fn same_node(answer: Answer<Handle>, wanted: Answer<u64>) -> bool {
-    match (answer, wanted) {
-        (Ok(found), Ok(node)) => found == handle(node),
-        (Err(error), Err(wanted)) => error == wanted,
-        _ => false,
-    }
-}
-
-/// Whether a call answers as wanted.
-fn holds(server: &mut Srv, case: Case) -> Result<bool, Fail>
+/// Moves a name of a directory to a name of another.
+pub fn renamed(
+    server: &mut Srv,
+    from: &Handle,
+    name: &[u8],
+    to: &Handle,
+    to_name: &[u8],
+) -> Result<Answer<()>, Fail>
     requires { HasTree (⟦<Srv as FileServer>⟧.state server.old) }
     ensures { OnOk result (HasTree (⟦<Srv as FileServer>⟧.state server.new)) }
 {
-    match case {
-        Case::Mkdir(dir, name, wanted) => {
-            Ok(same_node(made(server, &handle(dir), name)?, wanted))
-        }
-        Case::Create(dir, name, wanted) => {
-            Ok(same_node(created(server, &handle(dir), name)?, wanted))
-        }
-        Case::Symlink(dir, name, text, wanted) => Ok(same_node(
-            linked(server, &handle(dir), name, text)?,
-            wanted,
-        )),
-        Case::Lookup(dir, name, wanted) => {
-            Ok(same_node(found(server, &handle(dir), name)?, wanted))
-        }
-        Case::List(dir, wanted) => Ok(same_names(listed(server, &handle(dir))?, wanted)),
-        Case::Write(file, offset, piece, wanted) => {
-            Ok(wrote(server, &handle(file), offset, piece)? == wanted)
-        }
-        Case::SetSize(file, size, wanted) => { Ok(sized(server, &handle(file), size)? == wanted) }
-        Case::Read(file, offset, count, wanted) => Ok(same_bytes(
-            bytes_at(server, &handle(file), offset, count)?,
-            wanted,
-        )),
-        Case::ReadLink(link, wanted) => Ok(same_bytes(text_of(server, &handle(link))?, wanted)),
-        Case::Link(node, dir, name, wanted) => {
-            Ok(named(server, &handle(node), &handle(dir), name)? == wanted)
-        }
-        Case::Remove(dir, name, wanted) => Ok(unnamed(server, &handle(dir), name)? == wanted),
-        Case::Rmdir(dir, name, wanted) => Ok(emptied(server, &handle(dir), name)? == wanted),
-        Case::Rename(from, name, to, to_name, wanted) => {
-            Ok(renamed(server, &handle(from), name, &handle(to), to_name)? == wanted)
-        }
-        Case::SetAttr(node, mode, uid, gid) => {
-            Ok(attr_set(server, &handle(node), mode, uid, gid)? == Ok(()))
-        }
-        Case::Attr(node, wanted) => Ok(same_attr(attr_of(server, &handle(node))?, wanted)),
+    if is_bad(name) || is_dot(name) || name.len() > 255 {
+        return Err("name".into());
     }
-}
-
-/// Which of the calls answers otherwise.
-fn first_odd(server: &mut Srv, cases: &[Case]) -> Result<Option<usize>, Fail>
-    requires { HasTree (⟦<Srv as FileServer>⟧.state server.old) }
-    ensures { OnOk result (HasTree (⟦<Srv as FileServer>⟧.state server.new)) }
-{
-    for (at, case) in cases.iter().enumerate() {
-        if !holds(server, *case)? {
-            return Ok(Some(at));
-        }
+    if is_bad(to_name) || is_dot(to_name) || to_name.len() > 255 {
+        return Err("to_name".into());
     }
-    Ok(None)
-}
-
-/// Which of the calls on a server that was wiped once answers otherwise.
-pub fn odd_one(alloc: Global, limits: ServerLimits, cases: &[Case]) -> Result<Option<usize>, Fail>
-    requires { limits.bytes ≤ 1073741824 }
-{
-    let Ok(server) = PathServer::new(alloc, limits) else {
-        return Err("new".into());
-    };
-    let mut server: Srv = Box::new(alloc, server)?;
-    let Ok(()) = server.wipe() else {
-        return Err("wipe".into());
-    };
-    first_odd(&mut server, cases)
+    match server.rename(from, name, to, to_name) {
+        Ok(()) => Ok(Ok(())),
+        Err(SrvErr::Stale) => Ok(Err("stale")),
+        Err(SrvErr::NotDir) => Ok(Err("no directory")),
+        Err(SrvErr::NoEnt) => Ok(Err("no entry")),
+        Err(SrvErr::Subtree) => Ok(Err("below itself")),
+        Err(SrvErr::Refused) => Ok(Err("refused")),
+        Err(_) => Err("rename".into()),
+    }
 }
