@@ -13,6 +13,3 @@ mod writes;
 pub use abs_queries::is_valid;
 pub use array::AbsArray;
 pub use step::plain_step;
-
-#[cfg(test)]
-mod tests;

@@ -8,6 +8,8 @@ mod files;
 mod many;
 mod moves;
 mod names;
+mod plain;
+mod restarts;
 mod service;
 mod words;
 
@@ -26,33 +28,51 @@ const LIMITS: ServerLimits = ServerLimits {
 /// The tables of directories, over a server.
 fn directories(alloc: Global, server: Srv) -> Result<(), Fail> {
     let mut service = Service::new(alloc, server)?;
-    dirs::looked_at(alloc, &mut service)?;
-    dirs::made(alloc, &mut service)?;
-    dirs::listed(alloc, &mut service)?;
-    dirs::filled(alloc, &mut service)
+    service.gives_all(alloc, &dirs::LOOKED_AT)?;
+    service.gives_all(alloc, &dirs::MADE)?;
+    service.gives_all(alloc, &dirs::LISTED)?;
+    service.gives_all(alloc, &dirs::FILLED)
 }
 
 /// The tables of files and links, over a server.
 fn files_and_links(alloc: Global, server: Srv) -> Result<(), Fail> {
     let mut service = Service::new(alloc, server)?;
-    files::made(alloc, &mut service)?;
-    files::written(alloc, &mut service)?;
-    files::set(alloc, &mut service)
+    service.gives_all(alloc, &files::MADE)?;
+    service.gives_all(alloc, &files::WRITTEN)?;
+    service.gives_all(alloc, &files::SET)
 }
 
-/// The tables of names that are given, taken and moved, over two servers.
-fn names_and_moves(alloc: Global, first: Srv, second: Srv) -> Result<(), Fail> {
-    let mut service = Service::new(alloc, first)?;
-    names::linked(alloc, &mut service)?;
-    names::not_linked(alloc, &mut service)?;
-    names::removed(alloc, &mut service)?;
-    names::dirs_removed(alloc, &mut service)?;
-    let mut service = Service::new(alloc, second)?;
-    moves::refused(alloc, &mut service)?;
-    moves::tested(alloc, &mut service)?;
-    moves::files_moved(alloc, &mut service)?;
-    moves::dirs_moved(alloc, &mut service)?;
-    moves::written_below(alloc, &mut service)
+/// The tables of names that are given and taken, over a server.
+fn given_and_taken(alloc: Global, server: Srv) -> Result<(), Fail> {
+    let mut service = Service::new(alloc, server)?;
+    service.gives_all(alloc, &names::LINKED)?;
+    service.gives_all(alloc, &names::NOT_LINKED)?;
+    service.gives_all(alloc, &names::REMOVED)?;
+    service.gives_all(alloc, &names::DIRS_REMOVED)
+}
+
+/// The tables of names that move, over a server.
+fn moved(alloc: Global, server: Srv) -> Result<(), Fail> {
+    let mut service = Service::new(alloc, server)?;
+    service.gives_all(alloc, &moves::REFUSED)?;
+    service.gives_all(alloc, &moves::TESTED)?;
+    service.gives_all(alloc, &moves::FILES_MOVED)?;
+    service.gives_all(alloc, &moves::DIRS_MOVED)?;
+    service.gives_all(alloc, &moves::WRITTEN_BELOW)
+}
+
+/// The tables around restarts, over a server.
+fn restarted(alloc: Global, server: Srv) -> Result<(), Fail> {
+    let mut service = Service::new(alloc, server)?;
+    service.restart(alloc)?;
+    service.gives_all(alloc, &restarts::BUILT)?;
+    service.gives_all(alloc, &restarts::LOOKED_AT)?;
+    service.restart(alloc)?;
+    service.gives_all(alloc, &restarts::LOOKED_AT)?;
+    service.gives_all(alloc, &restarts::CHANGED)?;
+    service.restart(alloc)?;
+    service.restart(alloc)?;
+    service.gives_all(alloc, &restarts::LEFT)
 }
 
 /// A path server.
@@ -65,32 +85,41 @@ fn path_server(alloc: Global, limits: ServerLimits) -> Result<PathServer, Fail>
     }
 }
 
+/// A path server that is large enough.
+fn path(alloc: Global) -> Result<Srv, Fail> {
+    let server: Srv = Box::new(alloc, path_server(alloc, LIMITS)?)?;
+    Ok(server)
+}
+
+/// The same behind one that does no more than it must.
+fn reluctant(alloc: Global) -> Result<Srv, Fail> {
+    let server: Srv = Box::new(alloc, Reluctant::new(path_server(alloc, LIMITS)?))?;
+    Ok(server)
+}
+
 #[test]
 fn over_a_path_server(rt: HostRuntime) -> Result<(), Fail> {
     let alloc = rt.alloc();
-    directories(alloc, Box::new(alloc, path_server(alloc, LIMITS)?)?)?;
-    files_and_links(alloc, Box::new(alloc, path_server(alloc, LIMITS)?)?)?;
-    let second = Box::new(alloc, path_server(alloc, LIMITS)?)?;
-    names_and_moves(alloc, Box::new(alloc, path_server(alloc, LIMITS)?)?, second)
+    directories(alloc, path(alloc)?)?;
+    files_and_links(alloc, path(alloc)?)?;
+    given_and_taken(alloc, path(alloc)?)?;
+    moved(alloc, path(alloc)?)
 }
 
 #[test]
 fn over_a_reluctant_server(rt: HostRuntime) -> Result<(), Fail> {
     let alloc = rt.alloc();
-    directories(
-        alloc,
-        Box::new(alloc, Reluctant::new(path_server(alloc, LIMITS)?))?,
-    )?;
-    files_and_links(
-        alloc,
-        Box::new(alloc, Reluctant::new(path_server(alloc, LIMITS)?))?,
-    )?;
-    let second = Box::new(alloc, Reluctant::new(path_server(alloc, LIMITS)?))?;
-    names_and_moves(
-        alloc,
-        Box::new(alloc, Reluctant::new(path_server(alloc, LIMITS)?))?,
-        second,
-    )
+    directories(alloc, reluctant(alloc)?)?;
+    files_and_links(alloc, reluctant(alloc)?)?;
+    given_and_taken(alloc, reluctant(alloc)?)?;
+    moved(alloc, reluctant(alloc)?)
+}
+
+#[test]
+fn with_restarts(rt: HostRuntime) -> Result<(), Fail> {
+    let alloc = rt.alloc();
+    restarted(alloc, path(alloc)?)?;
+    restarted(alloc, reluctant(alloc)?)
 }
 
 #[test]

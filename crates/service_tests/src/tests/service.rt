@@ -1,6 +1,7 @@
 //! Calls that go to a server and to the plain machine.
 
 ghost use Rattle.std.specs.Prelude.{◌≡◌, ◌<◌, ◌≤◌, ◌^◌, IfOk, OnOk, length};
+ghost use Rattle.server_trait.specs.Step.{HasTree};
 ghost use Rattle.conf_map.specs.Stands.{HasRoom};
 ghost use Rattle.service_tests.specs.Ready.{IsReady};
 
@@ -9,14 +10,18 @@ use conf_map::{TouchList, fresh};
 use dispatch::answer;
 use nfs2_args::read_args;
 use nfs2_results::read_result;
-use nfs2_types::{Blob16, Cred, Limits, NfsResult, Time, Word};
+use nfs2_types::{Blob16, Cred, Handle, Limits, NfsResult, Time, Word};
+use restart::restart;
 use rpc_core::write_call;
-use server_trait::{ConfTable, FileServer, Srv};
+use server_trait::{ConfEntry, ConfTable, FileServer, Srv, SrvErr};
 use std::alloc::{AllocError, Global};
 use std::test::Fail;
 
+/// A call: the status that it is to give, its procedure, and the words of its arguments in parts.
+pub type Row = (u32, u32, &'static [&'static [u32]]);
+
 /// The bytes of words, the high byte first.
-fn bytes_of(alloc: Global, parts: &[&[u32]]) -> Result<Vec<u8>, AllocError> {
+pub fn bytes_of(alloc: Global, parts: &[&[u32]]) -> Result<Vec<u8>, AllocError> {
     let mut bytes = Vec::new(alloc);
     for words in parts {
         for word in *words {
@@ -27,7 +32,7 @@ fn bytes_of(alloc: Global, parts: &[&[u32]]) -> Result<Vec<u8>, AllocError> {
 }
 
 /// What the plain machine gives to the call with these arguments.
-fn plain(
+pub fn plain(
     alloc: Global,
     array: &mut AbsArray,
     limits: &Limits,
@@ -92,6 +97,51 @@ fn status_of(found: &NfsResult) -> u32 {
         NfsResult::Refused(stat) => stat.0,
         _ => 0,
     }
+}
+
+/// Fails where the handle leads to a node.
+fn is_stale(server: &mut Srv, handle: &Handle) -> Result<(), Fail>
+    requires { HasTree (state server.old) }
+    ensures same { OnOk result ((state server.new).tree ≡ (state server.old).tree) }
+    ensures limits { (state server.new).limits ≡ (state server.old).limits }
+{
+    match server.attr(handle) {
+        Err(SrvErr::Stale) => Ok(()),
+        _ => Err("a handle of before leads to a node".into()),
+    }
+}
+
+/// Fails where the handle of a row leads to a node.
+fn are_stale(server: &mut Srv, rows: &[ConfEntry]) -> Result<(), Fail>
+    requires { HasTree (state server.old) }
+    ensures same { OnOk result ((state server.new).tree ≡ (state server.old).tree) }
+    ensures limits { OnOk result ((state server.new).limits ≡ (state server.old).limits) }
+{
+    for row in rows {
+        let Some(handle) = row.handle else {
+            continue;
+        };
+        is_stale(server, &handle)?;
+    }
+    Ok(())
+}
+
+/// Restarts the server, and fails where a row has its old handle, or an old handle leads to a node.
+fn restarted(
+    alloc: Global,
+    server: &mut Srv,
+    table: &mut ConfTable,
+    limits: &Limits,
+) -> Result<(), Fail>
+    requires { IsReady limits.now (state server.old) table.old }
+    ensures { OnOk result (IsReady limits.now (state server.new) table.new) }
+{
+    let before = table.rows.clone()?;
+    match restart(alloc, server, table) {
+        Ok(()) => {}
+        Err(_) => return Err("the server failed".into()),
+    }
+    are_stale(server, &before)
 }
 
 /// A service over a server, and the array of the plain machine.
@@ -199,5 +249,27 @@ impl Service {
             return Err(format!(in alloc; "procedure {proc} gives {found:?}")?.into());
         }
         Ok(())
+    }
+
+    /// Sends calls one after another, each of which is to give its status.
+    pub fn gives_all(&mut self, alloc: Global, rows: &[Row]) -> Result<(), Fail>
+        requires { IsReady self.old.limits (⟦<Srv as FileServer>⟧.state self.old.server) self.old.table }
+        ensures { OnOk result (IsReady self.new.limits (⟦<Srv as FileServer>⟧.state self.new.server) self.new.table) }
+    {
+        for (status, proc, parts) in rows {
+            if *proc > 17 {
+                return Err("no procedure".into());
+            }
+            self.gives(alloc, *status, *proc, parts)?;
+        }
+        Ok(())
+    }
+
+    /// Restarts the server, where each node gets another handle.
+    pub fn restart(&mut self, alloc: Global) -> Result<(), Fail>
+        requires { IsReady self.old.limits (⟦<Srv as FileServer>⟧.state self.old.server) self.old.table }
+        ensures { OnOk result (IsReady self.new.limits (⟦<Srv as FileServer>⟧.state self.new.server) self.new.table) }
+    {
+        restarted(alloc, &mut self.server, &mut self.table, &self.limits)
     }
 }

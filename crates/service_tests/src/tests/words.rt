@@ -9,11 +9,6 @@ pub const STALE: [u32; 8] = [0x42415345, 0, 2, 0, 0, 0, 0, 0];
 /// A sattr that leaves all alone.
 pub const KEEP: [u32; 8] = [!0; 8];
 
-/// A sattr with a size alone.
-pub fn size(size: u32) -> [u32; 8] {
-    [!0, !0, !0, size, !0, !0, !0, !0]
-}
-
 /// Names of one letter, and others: ".", "..", "a/b", and no bytes.
 pub const A: [u32; 2] = [1, 0x61000000];
 
@@ -42,3 +37,9 @@ pub const H: [u32; 2] = [1, 0x68000000];
 pub const Q: [u32; 2] = [1, 0x71000000];
 
 pub const X: [u32; 2] = [1, 0x78000000];
+
+/// The bytes "hello" as an opaque.
+pub const HELLO: [u32; 3] = [5, 0x68656c6c, 0x6f000000];
+
+/// The status OK.
+pub const OK: [u32; 1] = [0];
