@@ -1,8 +1,8 @@
 -- Whether a directory lies below another, by a walk upward.
-use Rattle.std.proofs.Common.{inl, inr, true, false, cond, ◌≡◌, ◌≢◌, ◌∙◌, ◌⊎◌, ◌+◌, ◌<◌, ◌≤◌, ℕ, suc, zero, Bool, List, [], ◌∷◌, length, take, Option, Some, None, IsSome, refl, sym, ap, subst, bytes_eq, arith}
+use Rattle.std.proofs.Common.{inl, inr, true, false, cond, ◌≡◌, ◌≢◌, ◌∙◌, ◌⊎◌, ◌+◌, ◌<◌, ◌≤◌, ℕ, suc, zero, List, [], ◌∷◌, length, take, Some, IsSome, refl, sym, ap, subst, bytes_eq, arith}
 use Rattle.std.proofs.lemmas.Slice.Eq.{bytes_eq-Decides}
 use Rattle.std.specs.FinMap.{get, remove, len, entries}
-use Rattle.nfs2_types.specs.declared.fattr.Kind.TheVariants.{File, Dir, Link}
+use Rattle.nfs2_types.specs.declared.fattr.Kind.TheVariants.{Dir}
 use Rattle.server_trait.specs.Sums.{sum_values, total}
 use Rattle.server_trait.specs.Tree.{ByBytes, Tree, Node, Names, Content, BytesOf, TextOf, NamesOf, node_at, names_at, names_in, names_to, target, links, one_if, kind_of}
 use Rattle.server_trait.specs.Step.{LeadsIn, IsAtOrBelow}

@@ -1,5 +1,5 @@
 -- Errors of parts of a call that are errors of the call.
-use Rattle.std.proofs.Common.{inl, inr, ◌⊎◌, ℕ, List}
+use Rattle.std.proofs.Common.{inl, inr, ℕ, List}
 use Rattle.server_trait.specs.Tree.{Tree}
 use Rattle.server_trait.specs.Step.{IsBroken}
 use Rattle.server_trait.specs.Calls.{DirErr, LinkErr, LookupErr, MakeErr, RemoveErr, RenameErr, RmdirErr}

@@ -1,8 +1,7 @@
 -- What a handle and what is kept say of a node.
-use Rattle.std.proofs.Common.{inl, inr, ◌≡◌, ◌∙◌, ℕ, List, length, take, Option, Some, None, IsSome, refl, sym, ap, subst, arith}
+use Rattle.std.proofs.Common.{◌≡◌, ◌∙◌, ℕ, List, length, take, Option, Some, None, IsSome, refl, sym, ap, subst, arith}
 use Rattle.std.specs.Prelude.{IsSomeAnd, replicate}
 use Rattle.std.proofs.lemmas.List.{length-append}
-use Rattle.nfs2_types.specs.declared.fattr.Kind.{Kind}
 use Rattle.nfs2_types.specs.declared.fattr.Kind.TheVariants.{File, Dir, Link}
 use Rattle.server_trait.specs.Tree.{Tree, Node, Content, BytesOf, TextOf, NamesOf, node_at, names_at, names_in, bytes_at, bytes_in, text_at, text_in, kind_of, size_of}
 use Rattle.server_trait.specs.Step.{IsNo}

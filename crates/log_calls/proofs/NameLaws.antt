@@ -1,10 +1,10 @@
 -- What a look-up and the counts say to a call on names.
-use Rattle.std.proofs.Common.{inl, inr, ◌≡◌, ◌≢◌, ◌∙◌, ◌⊎◌, ◌+◌, ◌<◌, ◌≤◌, ℕ, suc, zero, List, length, Option, Some, None, IsSome, refl, sym, ap, subst, arith}
+use Rattle.std.proofs.Common.{◌≡◌, ◌≢◌, ◌∙◌, ℕ, suc, zero, List, Option, Some, None, IsSome, refl, sym, ap, subst, arith}
 use Rattle.std.specs.Prelude.{option_map, IsSomeAnd, if◌then◌else◌, bytes_eq}
 use Rattle.std.specs.FinMap.{get, empty, len, get-empty, len-empty}
 use Rattle.std.specs.Ordering.{nat_cmp}
 use Rattle.std.specs.Cmp.Lexicographic.{slice_cmp}
-use Rattle.server_trait.specs.Tree.{Tree, Node, Names, node_at, names_at, names_in, target, used, named, unnamed, let_go}
+use Rattle.server_trait.specs.Tree.{Tree, Node, Names, node_at, names_at, names_in, target, named, unnamed, let_go}
 use Rattle.server_trait.specs.Step.{HasName, HasNames, IsAtOrBelow, IsNo, LacksName, LeadsIn}
 use Rattle.server_trait.specs.Calls.{IsDir, renamed}
 use Rattle.server_trait.specs.declared.server.ServerLimits.{ServerLimits}

@@ -1,6 +1,6 @@
 -- What a tree on a log shows, and how the parts of a call make its answer.
-use Rattle.std.proofs.Common.{Bool, true, false, cond, ◌≡◌, ◌∙◌, ℕ, List, Option, Some, None, IsSome, refl, sym, ap, subst}
-use Rattle.std.specs.Prelude.{Result, Ok, Err, IfOk, OnOk}
+use Rattle.std.proofs.Common.{Bool, true, false, cond, ◌≡◌, ◌∙◌, ℕ, List, Option, Some, None, refl, sym, ap, subst}
+use Rattle.std.specs.Prelude.{Result, Ok, Err, IfErr, IfOk, OnOk}
 use Rattle.outside.specs.Causes.{WriteHasCause}
 use Rattle.outside.specs.declared.medium.MediumErr.{MediumErr}
 use Rattle.outside.specs.declared.medium.MediumErr.TheVariants.{Failed, NoMemory as Spent}
@@ -9,12 +9,10 @@ use Rattle.server_trait.specs.Step.{Called, Counts, IsBroken, OnlySoft, Outcome}
 use Rattle.server_trait.specs.Calls.{IsFresh, Wipe}
 use Rattle.server_trait.specs.declared.server.SrvErr.{SrvErr}
 use Rattle.server_trait.specs.declared.server.SrvErr.TheVariants.{Stale, NoEnt, Exists, NotDir, WrongKind, NotEmpty, Subtree, Refused, Full, Fault, NoMemory}
-use Rattle.server_trait.proofs.SoftLaws.{some_of}
-use Rattle.server_trait.proofs.TreeLaws.{some_none, some_same}
+use Rattle.server_trait.proofs.TreeLaws.{some_same}
 use Rattle.log_segments.specs.Segments.{live_records, records}
 use Rattle.log_tree.specs.Held.{held}
-use Rattle.log_held.specs.Room.{IsLarge}
-use Rattle.log_held.proofs.HeldLaws.{held_sound, sound_held}
+use Rattle.log_held.proofs.HeldLaws.{sound_held}
 use Rattle.log_held.proofs.Lists.{live_once}
 use Rattle.log_changes.specs.Kept.{Changes, IsKept, log_medium, log_tree}
 use Rattle.log_changes.specs.declared.tree.LogTree.{LogTree}
@@ -68,6 +66,16 @@ pub counts_fault : (T U : Type 0) (before now : ℕ) (e : MediumErr) → WriteHa
     → Counts {T = U} before now (Err (fault_of e))
 counts_fault T U before now Failed c = (c.later, c.failed refl)
 counts_fault T U before now Spent c = c.no_memory refl
+
+-- an answer has the cause of what it answers
+pub counts_answer : {T : Type 0} (before now : ℕ) (r : Result T MediumErr) → WriteHasCause before now r
+    → Counts before now (answer_of r)
+counts_answer before now (Ok x) c = c.ok
+counts_answer {T} before now (Err f) c = counts_fault T T before now f c
+
+pub answer_broken : {T : Type 0} (r : Result T MediumErr) → IfErr (answer_of r) IsBroken
+answer_broken (Ok x) = tt
+answer_broken (Err f) = fault_broken f
 
 pub kept_after : (e : SrvErr) → (IsBroken e → ⊥) → is_kept e ≡ true
 kept_after Fault whole = absurd (whole tt)

@@ -3,7 +3,7 @@ use Rattle.std.specs.Prelude.{◌≡◌, ℕ, Bool, true, false, List, length, O
 use Rattle.std.specs.Int.{from_be_bytes, w64}
 use Rattle.outside.specs.declared.medium.MediumErr.{MediumErr}
 use Rattle.outside.specs.declared.medium.MediumErr.TheVariants.{Failed, NoMemory as Spent}
-use Rattle.server_trait.specs.Tree.{Tree, Node, node_at}
+use Rattle.server_trait.specs.Tree.{Tree, node_at}
 use Rattle.server_trait.specs.Step.{IsStale}
 use Rattle.server_trait.specs.Calls.{IsDir}
 use Rattle.server_trait.specs.declared.server.NodeAttr.{NodeAttr}

@@ -1,5 +1,5 @@
 -- What a tree on a log is to a caller, and what a call leaves of it.
-use Rattle.std.specs.Prelude.{◌≡◌, ℕ, Bool, true, List, Option, None, Some, Result, Ok, Err, if◌then◌else◌, option_map}
+use Rattle.std.specs.Prelude.{◌≡◌, ℕ, Bool, true, List, Option, None, Result, Ok, Err, if◌then◌else◌, option_map}
 use Rattle.server_trait.specs.Tree.{Server, Tree, target}
 use Rattle.server_trait.specs.Step.{Counts, IsBroken}
 use Rattle.server_trait.specs.declared.server.SrvErr.{SrvErr}

@@ -1,7 +1,8 @@
 //! A tree that is made anew, or read again.
 
-ghost use Rattle.std.specs.Prelude.{◌≡◌, Bool, IsSome, OnOk};
+ghost use Rattle.std.specs.Prelude.{◌≡◌, Bool, IfErr, IsSome};
 ghost use Rattle.server_trait.specs.Calls.{Reboot, Wipe};
+ghost use Rattle.server_trait.specs.Step.{Counts, IsBroken};
 ghost use Rattle.log_tree.specs.Held.{held};
 ghost use Rattle.log_held.specs.Room.{IsLarge};
 ghost use Rattle.log_changes.specs.Kept.{IsKept, log_medium};
@@ -38,6 +39,8 @@ pub fn mount<M: Medium>(tree: &mut LogTree<M>) -> Result<(), SrvErr>
     requires large { IsLarge tree.old.limits (M.size (log_medium tree.old)) }
     ensures content { M.content (log_medium tree.new) ≡ M.content (log_medium tree.old) }
     ensures stays { Stays M.content M.size M.faults (stands result) tree.old tree.new }
+    ensures faults { Counts (M.faults (log_medium tree.old)) (M.faults (log_medium tree.new)) result }
+    ensures err { IfErr result IsBroken }
 {
     answered(read_log(tree))
 }

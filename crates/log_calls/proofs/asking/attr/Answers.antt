@@ -1,4 +1,4 @@
-use Rattle.std.proofs.Common.{◌≡◌, ◌∙◌, Some, refl, sym, subst}
+use Rattle.std.proofs.Common.{◌≡◌, Some, refl, sym, subst}
 use Rattle.std.specs.Prelude.{IsSomeAnd}
 use Rattle.server_trait.specs.Calls.{Attr, IsAttr, NodeErr}
 use Rattle.server_trait.specs.Tree.{node_at}

@@ -1,4 +1,4 @@
-use Rattle.std.proofs.Common.{◌≡◌, ◌∙◌, List, ℕ, None, Some, refl, sym, ap, subst}
+use Rattle.std.proofs.Common.{◌≡◌, ◌∙◌, Some, refl, sym, ap}
 use Rattle.server_trait.specs.Calls.{Lookup, LookupErr}
 use Rattle.server_trait.specs.Tree.{target}
 use Rattle.server_trait.specs.declared.server.SrvErr.TheVariants.{NoEnt}

@@ -1,9 +1,9 @@
-use Rattle.std.proofs.Common.{◌≡◌, ◌∙◌, List, ℕ, Some, length, take, drop, refl, sym, ap, subst}
+use Rattle.std.proofs.Common.{◌≡◌, ◌∙◌, ℕ, Some, length, take, drop, sym, ap, subst}
 use Rattle.std.specs.Prelude.{Vec, option_map}
 use Rattle.std.specs.declared.alloc.Global.{Global}
 use Rattle.server_trait.specs.Calls.{ContentErr, Read}
 use Rattle.server_trait.specs.Tree.{bytes_at, bytes_in}
-use Rattle.server_trait.proofs.SoftLaws.{some_of, read_soft}
+use Rattle.server_trait.proofs.SoftLaws.{read_soft}
 use Rattle.server_trait.proofs.TreeLaws.{some_and}
 use Rattle.log_tree.specs.Held.{handle_of}
 use Rattle.log_changes.specs.Kept.{log_tree}

@@ -1,10 +1,9 @@
-use Rattle.std.proofs.Common.{◌≡◌, ◌∙◌, List, ℕ, Some, length, take, drop, refl, sym, ap, subst}
-use Rattle.std.specs.Prelude.{Vec, option_map}
+use Rattle.std.proofs.Common.{◌≡◌, ◌∙◌, ℕ, Some, sym, ap, subst}
+use Rattle.std.specs.Prelude.{Vec}
 use Rattle.std.specs.declared.alloc.Global.{Global}
 use Rattle.server_trait.specs.Calls.{ContentErr, ReadLink}
 use Rattle.server_trait.specs.Tree.{text_at, text_in}
 use Rattle.server_trait.proofs.SoftLaws.{some_of, read_link_soft}
-use Rattle.server_trait.proofs.TreeLaws.{some_and}
 use Rattle.log_tree.specs.Held.{handle_of}
 use Rattle.log_changes.specs.Kept.{log_tree}
 use Rattle.log_calls.specs.State.{Does}

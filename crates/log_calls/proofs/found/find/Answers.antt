@@ -1,6 +1,4 @@
-use Rattle.std.proofs.Common.{◌≡◌, ◌∙◌, sym, subst}
 use Rattle.log_changes.specs.Kept.{log_live}
-use Rattle.log_calls.specs.Answers.{IsIdOf}
 use Rattle.log_calls.proofs.FoundLaws.{no_node}
 use Rattle.log_calls.proofs.found.find.Goals as goal
 

@@ -1,4 +1,4 @@
-use Rattle.std.proofs.Common.{true, false, ◌≡◌, ◌∙◌, List, ℕ, bytes_eq, take, sym, ap}
+use Rattle.std.proofs.Common.{true, false, ◌≡◌, ◌∙◌, bytes_eq, take, sym, ap}
 use Rattle.std.specs.Prelude.{replicate}
 use Rattle.std.proofs.lemmas.List.{take_at}
 use Rattle.std.proofs.lemmas.Slice.Eq.{bytes_eq-Decides}

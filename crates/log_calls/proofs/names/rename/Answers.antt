@@ -1,6 +1,6 @@
-use Rattle.std.proofs.Common.{inl, inr, ◌≡◌, ◌∙◌, List, ℕ, None, Some, IsSome, refl, sym, ap, subst}
+use Rattle.std.proofs.Common.{◌≡◌, ◌∙◌, None, Some, sym, ap, subst}
 use Rattle.std.specs.Prelude.{IsSomeAnd, option_map}
-use Rattle.server_trait.specs.Step.{IsAtOrBelow, LacksName}
+use Rattle.server_trait.specs.Step.{IsAtOrBelow}
 use Rattle.server_trait.specs.Calls.{IsDir, Rename, RenameErr, renamed}
 use Rattle.server_trait.specs.Tree.{named, names_at, target, unnamed}
 use Rattle.server_trait.specs.declared.server.SrvErr.TheVariants.{NoEnt, Refused, Subtree}

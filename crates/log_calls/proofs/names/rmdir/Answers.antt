@@ -1,21 +1,15 @@
-use Rattle.std.proofs.Common.{inl, inr, ◌≡◌, ◌≢◌, ◌∙◌, ◌+◌, ◌-◌, ◌<◌, List, ℕ, None, Some, IsSome, length, refl, sym, ap, subst, arith}
-use Rattle.std.proofs.lemmas.Result.{err_from_is_err_and}
-use Rattle.std.specs.Prelude.{IsSomeAnd}
-use Rattle.std.specs.FinMap.{empty, len}
-use Rattle.server_trait.specs.Step.{HasNames, IsNo, LacksName}
-use Rattle.server_trait.specs.Calls.{IsDir, Link, LinkErr, Made, Make, MakeErr, Remove, Removed, RemoveErr, Rmdir, RmdirErr}
-use Rattle.server_trait.specs.Tree.{Tree, Names, let_go, named, names_at, names_in, node_at, target, unnamed, used}
-use Rattle.server_trait.specs.declared.server.ServerLimits.{ServerLimits}
-use Rattle.server_trait.specs.declared.server.SrvErr.TheVariants.{Exists, Full, NoEnt, NotDir, NotEmpty, WrongKind}
-use Rattle.server_trait.proofs.NameSoftLaws.{link_soft, remove_soft, rmdir_soft}
-use Rattle.server_trait.proofs.SoftLaws.{make_soft}
+use Rattle.std.proofs.Common.{inr, ◌≡◌, ◌∙◌, Some, sym, ap, subst}
+use Rattle.server_trait.specs.Step.{HasNames, IsNo}
+use Rattle.server_trait.specs.Calls.{Removed, Rmdir, RmdirErr}
+use Rattle.server_trait.specs.Tree.{let_go, names_in, unnamed}
+use Rattle.server_trait.specs.declared.server.SrvErr.TheVariants.{NoEnt, NotDir, NotEmpty}
+use Rattle.server_trait.proofs.NameSoftLaws.{rmdir_soft}
 use Rattle.server_trait.proofs.TreeLaws.{is_some_and}
 use Rattle.log_tree.specs.Held.{handle_of}
-use Rattle.log_changes.specs.Kept.{IsKept, log_live, log_medium, log_tree}
-use Rattle.log_changes.specs.Made.{IsBareDir, made_content}
+use Rattle.log_changes.specs.Kept.{log_live, log_tree}
 use Rattle.log_calls.specs.State.{Does}
-use Rattle.log_calls.proofs.NameLaws.{bare_by_len, dir_known, empty_by_len, has_name, lacks_name, leads_to, leaf_known, not_bare}
-use Rattle.log_calls.proofs.StateLaws.{did, ended, fell, if_ok, off_after, off_answer, ok_answer, on_ok, stayed}
+use Rattle.log_calls.proofs.NameLaws.{bare_by_len, empty_by_len, lacks_name, leads_to, leaf_known, not_bare}
+use Rattle.log_calls.proofs.StateLaws.{ended, on_ok, stayed}
 use Rattle.log_calls.proofs.names.rmdir.Goals as goal
 
 pub returns-in_default : goal.returns-in_default

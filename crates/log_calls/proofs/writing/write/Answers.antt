@@ -1,4 +1,4 @@
-use Rattle.std.proofs.Common.{◌≡◌, ◌∙◌, ◌≤◌, ℕ, Some, length, sym, ap, subst}
+use Rattle.std.proofs.Common.{◌≡◌, ◌∙◌, ℕ, Some, length, sym, ap, subst}
 use Rattle.server_trait.specs.Calls.{Write, WriteErr, Wrote}
 use Rattle.server_trait.specs.Tree.{bytes_at}
 use Rattle.server_trait.proofs.SoftLaws.{write_soft}
