@@ -1,0 +1,20 @@
+use Rattle.log_server.proofs.ReadyLaws.{again, answers, kept}
+use Rattle.log_server.proofs.server.LogServerFileServer.list.Goals as goal
+
+pub list-answer-requires : goal.list-answer-requires
+list-answer-requires g c =
+    let s = c.self.inside in
+    kept g.M.Medium.content g.M.Medium.size g.M.Medium.faults s.up s.tree c.args.self.now c.self.view_is c.requires
+    c.self.invariant
+
+pub invariant_of-self : goal.invariant_of-self
+invariant_of-self g c =
+    let s = c.self.inside in
+    again g.M.Medium.content g.M.Medium.size g.M.Medium.faults _ c.has_tree-self-inside.result s.tree c.list-answer.new.tree
+    c.has_tree-self-inside.ensures c.list-answer.ensures.stays c.self.invariant.large
+
+pub returns : goal.returns
+returns g c =
+    let s = c.self.inside in
+    answers g.M.Medium.content g.M.Medium.size g.M.Medium.faults s.up s.tree c.args.self.now c.self.view_is c.requires _
+    c.list-answer.result c.list-answer.new.tree c.list-answer.ensures c.has_tree-self-inside.result c.has_tree-self-inside.ensures

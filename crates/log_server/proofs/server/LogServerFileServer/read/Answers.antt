@@ -1,0 +1,20 @@
+use Rattle.log_server.proofs.ReadyLaws.{again, answers, kept}
+use Rattle.log_server.proofs.server.LogServerFileServer.read.Goals as goal
+
+pub read-answer-requires : goal.read-answer-requires
+read-answer-requires g c =
+    let s = c.self.inside in
+    kept g.M.Medium.content g.M.Medium.size g.M.Medium.faults s.up s.tree c.args.self.now c.self.view_is c.requires
+    c.self.invariant
+
+pub invariant_of-self : goal.invariant_of-self
+invariant_of-self g c =
+    let s = c.self.inside in
+    again g.M.Medium.content g.M.Medium.size g.M.Medium.faults _ c.has_tree-self-inside.result s.tree c.read-answer.new.tree
+    c.has_tree-self-inside.ensures c.read-answer.ensures.stays c.self.invariant.large
+
+pub returns : goal.returns
+returns g c =
+    let s = c.self.inside in
+    answers g.M.Medium.content g.M.Medium.size g.M.Medium.faults s.up s.tree c.args.self.now c.self.view_is c.requires _
+    c.read-answer.result c.read-answer.new.tree c.read-answer.ensures c.has_tree-self-inside.result c.has_tree-self-inside.ensures
