@@ -1,0 +1,4 @@
+use Rattle.recovery.proofs.finishing.live_over.Goals as goal
+
+pub returns-clause-live : goal.returns-clause-live
+returns-clause-live g c A st = c.in_ok-replica.ensures A (c.in_ok-tree.ensures.digests A st)

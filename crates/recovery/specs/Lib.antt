@@ -1,0 +1,4 @@
+pub mod Rebuilt
+pub mod Ends
+pub mod Served
+pub mod Real
