@@ -15,6 +15,7 @@ mod turn;
 mod verdict;
 
 use inode_server::InodeServer;
+use log_server::LogServer;
 use nfs2_types::NoMemory;
 use outside::{MemClock, MemLink, MemMedium};
 use outside_real::{StdSink, StdSource};
@@ -36,8 +37,11 @@ const LIMITS: ServerLimits = ServerLimits {
     bytes: 17_825_792,
 };
 
-/// The blocks of a medium for so much: 64, eight for each node, and one for each 256 bytes.
-const BLOCKS: u32 = 102_488;
+/// The blocks of a medium of inodes for so much: 64, eight for each node, and one for each 256 bytes.
+const INODE_BLOCKS: u32 = 102_488;
+
+/// The blocks of a medium with a log for so much: 128, eight for each node, and one for each 128 bytes.
+const LOG_BLOCKS: u32 = 172_184;
 
 /// The words behind the program's name, if all of them are text.
 fn words<R: Env + AllocGlobal>(rt: &R) -> Result<Vec<String>, Status> {
@@ -65,22 +69,27 @@ fn run_over(rt: &HostRuntime, words: &[String], bench: &mut Bench) -> Result<Sta
     ))
 }
 
-/// Makes the bench, and runs the program over it. Each third server is one of inodes on a medium in memory, from the
-/// first on; the others keep whole paths. The status is an error where the program was not run.
+/// Makes the bench, and runs the program over it. Its servers are of three kinds in turn: one of inodes on a medium in memory,
+/// one with a log on such a medium, and one that keeps whole paths. The status is an error where the program was not run.
 fn start(rt: &HostRuntime) -> Result<Status, Status> {
     let words = words(rt)?;
-    let mut servers: Vec<Srv> = Vec::new(rt.alloc());
+    let alloc = rt.alloc();
+    let mut servers: Vec<Srv> = Vec::new(alloc);
     for position in 0..SERVERS {
-        if position % 3 == 0 {
-            let medium = MemMedium::new(rt.alloc(), BLOCKS, Vec::new(rt.alloc()));
-            let server = InodeServer::new(rt.alloc(), medium, LIMITS)?;
-            servers.push(Box::new(rt.alloc(), server)?)?;
-        } else {
-            let server = PathServer::new(rt.alloc(), LIMITS)?;
-            servers.push(Box::new(rt.alloc(), server)?)?;
-        }
+        let server: Srv = match position % 3 {
+            0 => {
+                let medium = MemMedium::new(alloc, INODE_BLOCKS, Vec::new(alloc));
+                Box::new(alloc, InodeServer::new(alloc, medium, LIMITS)?)?
+            }
+            1 => {
+                let medium = MemMedium::new(alloc, LOG_BLOCKS, Vec::new(alloc));
+                Box::new(alloc, LogServer::new(alloc, medium, LIMITS))?
+            }
+            _ => Box::new(alloc, PathServer::new(alloc, LIMITS)?)?,
+        };
+        servers.push(server)?;
     }
-    let status = run_over(rt, &words, &mut Bench::new(rt.alloc(), servers))?;
+    let status = run_over(rt, &words, &mut Bench::new(alloc, servers))?;
     Ok(status)
 }
 
