@@ -11,7 +11,6 @@ use Rattle.log_format.specs.Lines.{text_of}
 use Rattle.log_stream.specs.Writing.{Writes}
 use Rattle.log_stream.proofs.WriteSteps.{Appends-none}
 use Rattle.cluster_model.specs.Good.{FitsEvent}
-use Rattle.cluster_model.specs.Calm.{IsHarmless}
 use Rattle.cluster_model.specs.Run.{start, AreMet}
 use Rattle.service_laws.specs.Served.{IsSized, service}
 use Rattle.cluster_model.specs.declared.Request.{Request}
@@ -42,7 +41,6 @@ module _ {X : Type 0} (state : X → Server) (limits : Limits) (kept : Kept) (se
     is_run = ([], sym (append-nil (start (service limits) (length servers) downs')), refl);
     sized = sized;
     fits = All-nil (FitsEvent (service limits));
-    harmless = All-nil IsHarmless;
     is_state = s.stands;
     requests = s.requests;
     counted = s.events;

@@ -11,11 +11,9 @@ use Rattle.log_format.specs.Spelling.{record_len}
 use Rattle.log_stream.specs.Reading.{Spells}
 use Rattle.log_stream.proofs.Lengths.{length_spelled}
 use Rattle.cluster_model.specs.declared.Request.{Request}
-use Rattle.cluster_model.specs.Calm.{IsHarmless}
 use Rattle.cluster.specs.Steps.{is_built, asked_by, CanStep}
 use Rattle.basefs.specs.declared.verdict.Verdict.TheVariants as verdict
 use Rattle.service_laws.proofs.Fits.{record_numbers}
-use Rattle.basefs.proofs.Running.{built_harmless}
 use Rattle.basefs.specs.Log.{bad, not_built, stops, goes_on, behind_last, judge, judge_request, last_time, falls, records_from}
 
 pub records_zero : (f servers : ℕ) (q : List Request) (place : ℕ) (bytes : List ℕ) → records_from 0 f servers q place bytes ≡ stops (bad place)
@@ -90,15 +88,22 @@ can_step limits servers q taken (records.Request client time bytes) h j = (
   (record_numbers limits.f servers (taken ++ []) [] (records.Request client time bytes) (h [])).moment,
 )
 can_step limits servers q taken (records.Run r) h j = record_numbers limits.f servers (taken ++ []) [] (records.Run r) (h [])
+can_step limits servers q taken (records.Rogue r time bytes) h j = (
+    let n = record_numbers limits.f servers (taken ++ []) [] (records.Rogue r time bytes) (h []) in
+    (n.0, n.1.moment))
+can_step limits servers q taken (records.Skip r) h j =
+    record_numbers limits.f servers (taken ++ []) [] (records.Skip r) (h [])
+can_step limits servers q taken (records.LieReply r place w) h j =
+    record_numbers limits.f servers (taken ++ []) [] (records.LieReply r place w) (h [])
+can_step limits servers q taken (records.LieRoot r place root) h j =
+    record_numbers limits.f servers (taken ++ []) [] (records.LieRoot r place root) (h [])
+can_step limits servers q taken (records.LieItem r level number text) h j =
+    record_numbers limits.f servers (taken ++ []) [] (records.LieItem r level number text) (h [])
+can_step limits servers q taken (records.Wipe r) h j =
+    record_numbers limits.f servers (taken ++ []) [] (records.Wipe r) (h [])
 can_step limits servers q taken records.RunAll h j = refl
 can_step limits servers q taken records.End h j = refl
 can_step limits servers q taken e h j = goes_built (is_built e) j
-
--- a record that goes harms nothing
-pub goes_harmless : (q : List Request) (e : Event) → judge q e ≡ verdict.Goes → IsHarmless e
-goes_harmless q (records.Request client time bytes) j = tt
-goes_harmless q records.End j = tt
-goes_harmless q e j = built_harmless e (goes_built (is_built e) j)
 
 -- the record that ends a log is End
 pub ends_is : (q : List Request) (e : Event) → judge q e ≡ verdict.Ends → e ≡ records.End
@@ -110,7 +115,3 @@ ends_is q (records.Request client time bytes) j =
     request_ends false h = let g : verdict.Goes ≡ verdict.Ends = h in cc
 ends_is q records.End j = refl
 ends_is q e j = absurd (ends_last e (is_built e) j)
-
--- the record that ends a log harms nothing
-pub ends_harmless : (q : List Request) (e : Event) → judge q e ≡ verdict.Ends → IsHarmless e
-ends_harmless q e j = subst IsHarmless (sym (ends_is q e j)) tt

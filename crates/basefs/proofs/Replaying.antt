@@ -149,7 +149,6 @@ ran_whole state servers old left held tables downs new h s r w p =
       record {
         events = p.events;
         ends = Ends-then read p.ends;
-        harmless = p.harmless;
         ms = p.ms;
         is_run = p.is_run;
         printed = p.printed;

@@ -2,7 +2,6 @@
 use Rattle.std.proofs.Common.{◌≡◌, ◌≢◌, ℕ, suc, ◌+◌, ◌*◌, true, List, [], ◌∷◌, ◌++◌, length, get_or, refl, sym, ◌∙◌, ap, subst, arith}
 use Rattle.std.specs.List.{All}
 use Rattle.log_format.specs.declared.Event.{Event}
-use Rattle.log_format.specs.declared.Event.TheVariants as records
 use Rattle.nfs2_types.specs.declared.Limits.{Limits}
 use Rattle.server_trait.specs.declared.FaultPoint.{FaultPoint}
 use Rattle.cluster_model.specs.Service.{Service}
@@ -24,7 +23,6 @@ use Rattle.cluster_model.proofs.ExactRuns.{exact_run}
 use Rattle.cluster_model.proofs.Headline.{headline}
 use Rattle.service_laws.specs.Served.{IsSized, service}
 use Rattle.service_laws.proofs.Served.{service_lawful, service_orderly}
-use Rattle.cluster.specs.Steps.{is_built}
 use Rattle.basefs.specs.Run.{IsTold, end_of}
 
 -- FAULT POINTS OF LATER RECORDS MAKE NO DIFFERENCE
@@ -97,20 +95,3 @@ module _ (limits : Limits) (servers : ℕ) (downs : List FaultPoint) (events : L
   pub run_served : All IsHarmless events → Always (IsServed (service limits)) ms
   run_served harmless =
       loose_run_calm (service limits) (service_orderly limits) servers downs events harmless ms loose
-
--- a record whose step is built harms nothing
-pub built_harmless : (e : Event) → is_built e ≡ true → IsHarmless e
-built_harmless (records.Request client time bytes) h = tt
-built_harmless (records.Run r) h = tt
-built_harmless records.RunAll h = tt
-built_harmless records.End h = tt
-built_harmless (records.Reboot r) h = absurd cc
-built_harmless (records.Fetch r n) h = absurd cc
-built_harmless (records.Rogue r time bytes) h = absurd cc
-built_harmless (records.Skip r) h = absurd cc
-built_harmless (records.Scratch r i offset bytes) h = absurd cc
-built_harmless (records.LieReply r p w) h = absurd cc
-built_harmless (records.LieRoot r p d) h = absurd cc
-built_harmless (records.LieItem r level number text) h = absurd cc
-built_harmless (records.Wipe r) h = absurd cc
-built_harmless (records.Swap r spare) h = absurd cc

@@ -20,7 +20,6 @@ use Rattle.cluster_model.specs.Tree.{below}
 use Rattle.cluster_model.specs.Moments.{Moment}
 use Rattle.cluster_model.specs.Turns.{last}
 use Rattle.cluster_model.specs.Good.{FitsEvent}
-use Rattle.cluster_model.specs.Calm.{IsHarmless}
 use Rattle.cluster_model.specs.Loose.{LooseStep}
 use Rattle.cluster_model.specs.Run.{faults_in, fresh, LooseRun, AreMet, failed_of}
 use Rattle.cluster_model.proofs.Growing.{run_snoc, last-append}
@@ -52,7 +51,7 @@ module _ {X : Type 0} {state : X → Server} {limits : Limits} {before servers s
     {tables tables' : List ConfTable} {downs downs' : List FaultPoint} {kept kept' : Kept} {events : List Event}
     {e : Event} {lines : List Line} (h : Here state limits before servers tables downs kept events)
     (s : Steps state kept kept' servers servers' tables tables' downs downs' e lines)
-    (fits : FitsEvent (service limits) e) (harmless : IsHarmless e) (later : AreLater state (3 * limits.f + 1) servers servers') where
+    (fits : FitsEvent (service limits) e) (later : AreLater state (3 * limits.f + 1) servers servers') where
   abbrev first : Moment
   first = fresh (service limits) (length before)
 
@@ -117,7 +116,6 @@ module _ {X : Type 0} {state : X → Server} {limits : Limits} {before servers s
     is_run = run_then;
     sized = h.sized;
     fits = All-push (FitsEvent (service limits)) events e h.fits fits;
-    harmless = All-push IsHarmless events e h.harmless harmless;
     is_state = subst (λ (n : Moment). IsState state kept' servers' tables' n.state) (sym end_is) follows.stands;
     requests = s.requests ∙ ap (λ q. q ++ asked_by e) h.requests
         ∙ sym (flat_map-append asked_by events (e ∷ [])
@@ -198,7 +196,6 @@ module _ {X : Type 0} {state : X → Server} {limits : Limits} {old now : Settin
   ran_here h ends unread printed cut = record {
     events = events;
     ends = ends;
-    harmless = h.harmless;
     ms = h.ms;
     is_run = h.is_run;
     printed = printed;
@@ -206,7 +203,7 @@ module _ {X : Type 0} {state : X → Server} {limits : Limits} {old now : Settin
     unread = unread;
     exact = run_exact limits (length old.servers) now.downs events h.ms h.is_run h.sized h.fits;
     promised = run_promised limits (length old.servers) now.downs events h.ms h.is_run h.sized h.fits;
-    calm = run_served limits (length old.servers) now.downs events h.ms h.is_run h.harmless;
+    calm = run_served limits (length old.servers) now.downs events h.ms h.is_run;
     told = run_told limits (length old.servers) now.downs events h.ms h.is_run;
     requests = h.is_state.requests ∙ h.requests;
     stands = λ no. live_stand state limits h.limits_are h.is_state;
@@ -232,7 +229,6 @@ ran_short {state = state} {limits = limits} {old = old} {now = now} {events = ev
     ends printed cut = record {
       events = events;
       ends = ends;
-      harmless = h.harmless;
       ms = h.ms;
       is_run = h.is_run;
       printed = printed;
@@ -240,7 +236,7 @@ ran_short {state = state} {limits = limits} {old = old} {now = now} {events = ev
       unread = λ e. absurd (let other : status.NoMemory ≡ status.WriteFault = e in cc);
       exact = run_exact limits (length old.servers) now.downs events h.ms h.is_run h.sized h.fits;
       promised = run_promised limits (length old.servers) now.downs events h.ms h.is_run h.sized h.fits;
-      calm = run_served limits (length old.servers) now.downs events h.ms h.is_run h.harmless;
+      calm = run_served limits (length old.servers) now.downs events h.ms h.is_run;
       told = run_told limits (length old.servers) now.downs events h.ms h.is_run;
       requests = h.is_state.requests ∙ h.requests;
       stands = λ no. absurd (no refl);

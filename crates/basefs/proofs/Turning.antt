@@ -17,7 +17,6 @@ use Rattle.log_stream.specs.Reading.{Reads}
 use Rattle.outside.specs.declared.SinkErr.TheVariants as sink
 use Rattle.cluster_model.specs.declared.Request.{Request}
 use Rattle.cluster_model.specs.Good.{FitsEvent}
-use Rattle.cluster_model.specs.Calm.{IsHarmless}
 use Rattle.cluster.specs.Positions.{AreLater}
 use Rattle.cluster.specs.OverBench.{Kept}
 use Rattle.cluster.specs.Steps.{asked_by}
@@ -34,7 +33,7 @@ use Rattle.basefs.specs.Going.{Goes, Going, Turns, FinishSays, Finishes, read_st
 use Rattle.basefs.specs.Turns.{Stepped, Written}
 use Rattle.service_laws.specs.Served.{service}
 use Rattle.service_laws.proofs.Fits.{record_numbers, numbers_fit}
-use Rattle.basefs.proofs.Records.{records_zero, records_none, goes_harmless, ends_harmless}
+use Rattle.basefs.proofs.Records.{records_zero, records_none}
 use Rattle.basefs.proofs.Taking.{Ends-then, Goes-then, HoldsOf-always, over_read, over_wrong, over_waits, over_memory, one_goes, last_goes, over_finish, over_most}
 use Rattle.basefs.proofs.Stepped.{here_more, text_more, ran_here, ran_short, cut_here, cut_whole, printed_all, printed_part, appended_all}
 
@@ -163,7 +162,6 @@ module _ {X : Type 0} (state : X → Server) (l : Limits) (left left' held : Opt
         place (turns.Goes (place + record_len e))
     turn_goes x j w limits log old n g =
         let fits = fits_by limits log old (suc n) g in
-        let harmless = goes_harmless kept.requests e j in
         let more = since limits log old (suc n) g in
         record {
           events = g.events ++ e ∷ [];
@@ -172,24 +170,24 @@ module _ {X : Type 0} (state : X → Server) (l : Limits) (left left' held : Opt
               (sym w.steps.requests)
               (Goes-then g.goes (one_goes n limits.f (length old.servers) kept.requests place
               (taken_by limits log old (suc n) g) j));
-          here = here_more g.here w.steps fits harmless more;
-          printed = appended_all old.held _ g.printed w.writes (text_more g.here w.steps fits harmless more);
+          here = here_more g.here w.steps fits more;
+          printed = appended_all old.held _ g.printed w.writes (text_more g.here w.steps fits more);
         }
 
     wrote_part : (limits : Limits) (log : List ℕ → Log) (old : Setting X) (n : ℕ) (f : RunErr)
-        (rest : List ℕ → Log) → IsHarmless e → (rest []).events ≡ [] → (g : Before limits log old (suc n)) →
+        (rest : List ℕ → Log) → (rest []).events ≡ [] → (g : Before limits log old (suc n)) →
         Goes left left' (records_from (suc n) limits.f (length old.servers) kept.requests place) rest
         (e ∷ []) →
         Written state kept kept' servers servers' tables tables' downs downs' held held' e (Err f) →
         Ran state limits log old (setting left' held' servers' tables' downs') (run_status f)
-    wrote_part limits log old n f rest harmless none g goes w =
+    wrote_part limits log old n f rest none g goes w =
         let all = Goes-then g.goes goes in
         let fits = fits_by limits log old (suc n) g in
         let more = since limits log old (suc n) g in
-        ran_here (here_more g.here w.steps fits harmless more) (ends_at_write f all)
+        ran_here (here_more g.here w.steps fits more) (ends_at_write f all)
         (λ e. unread_at_write all none)
-        (printed_part _ g.printed w.writes (text_more g.here w.steps fits harmless more))
-        (cut_here g.here w.steps fits harmless more w.writes.part)
+        (printed_part _ g.printed w.writes (text_more g.here w.steps fits more))
+        (cut_here g.here w.steps fits more w.writes.part)
 
     wanted : (limits : Limits) (log : List ℕ → Log) (old : Setting X) (n : ℕ) → downs' ≡ downs → held' ≡ held →
         Before limits log old n →
@@ -218,13 +216,12 @@ module _ {X : Type 0} (state : X → Server) (l : Limits) (left left' held : Opt
     turn_failed f (inl j) (inl w) limits log old n g =
         wrote_part limits log old n f
         (records_from n limits.f (length old.servers) (kept.requests ++ asked_by e) (place + record_len e))
-        (goes_harmless kept.requests e j)
         (nothing_more n limits.f (length old.servers) (kept.requests ++ asked_by e) (place + record_len e)) g
         (one_goes n limits.f (length old.servers) kept.requests place (taken_by limits log old (suc n) g)
         j) w
     turn_failed f (inr j) (inl w) limits log old n g =
         wrote_part limits log old n f (λ more. stops (behind_last (place + record_len e) more))
-        (ends_harmless kept.requests e j) refl g
+        refl g
         (last_goes n limits.f (length old.servers) kept.requests place (taken_by limits log old (suc n) g)
         j) w
     turn_failed f j (inr w) limits log old n g =
@@ -239,16 +236,15 @@ module _ {X : Type 0} (state : X → Server) (l : Limits) (left left' held : Opt
         place (turns.Over f)
     turn_ends x left'' f j w finish limits log old n g =
         let fits = fits_by limits log old (suc n) g in
-        let harmless = ends_harmless kept.requests e j in
         let more = since limits log old (suc n) g in
-        let here = here_more g.here w.steps fits harmless more in
+        let here = here_more g.here w.steps fits more in
         ran_here here
         (subst (Ends old.left left'' log f) (append-nil (g.events ++ e ∷ []))
         (Ends-then (Goes-then g.goes (last_goes n limits.f (length old.servers) kept.requests place
         (taken_by limits log old (suc n) g) j))
         (over_finish (place + record_len e) finish)))
         (λ e. absurd (finish_no_write finish e))
-        (printed_all f (appended_all old.held _ g.printed w.writes (text_more g.here w.steps fits harmless more)))
+        (printed_all f (appended_all old.held _ g.printed w.writes (text_more g.here w.steps fits more)))
         (cut_whole here)
 
 -- what was stepped was not wanted

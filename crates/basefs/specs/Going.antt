@@ -13,7 +13,6 @@ use Rattle.outside.specs.declared.SinkErr.{SinkErr}
 use Rattle.outside.specs.declared.SinkErr.TheVariants as sink
 use Rattle.cluster_model.specs.Moments.{Moment}
 use Rattle.cluster_model.specs.Good.{FitsEvent}
-use Rattle.cluster_model.specs.Calm.{IsHarmless}
 use Rattle.cluster_model.specs.Run.{fresh, LooseRun, AreMet}
 use Rattle.service_laws.specs.Served.{IsSized, service}
 use Rattle.cluster.specs.Positions.{AreLater}
@@ -48,7 +47,6 @@ pub record Here {X : Type 0} (state : X → Server) (limits : Limits) (before se
   pub is_run : LooseRun (service limits) (length before) downs events ms
   pub sized : IsSized limits
   pub fits : All (FitsEvent (service limits)) events
-  pub harmless : All IsHarmless events
   pub is_state : IsState state kept servers tables (end_of limits (length before) ms).state
   pub requests : kept.requests ≡ requests_of events
   pub counted : kept.events ≡ length events

@@ -103,7 +103,6 @@ pub record Ran {X : Type 0} (state : X → Server) (limits : Limits) (log : List
     (ended : Status) : Type 0 where
   pub events : List Event
   pub ends : Ends old.left new.left log ended events
-  pub harmless : All IsHarmless events
   -- the moments of the model's run of these records, in which servers fail at the fault points
   pub ms : List Moment
   pub is_run : LooseRun (service limits) (length old.servers) new.downs events ms
@@ -117,8 +116,8 @@ pub record Ran {X : Type 0} (state : X → Server) (limits : Limits) (log : List
   -- array is that of its place.
   pub exact : SameUptoApart (service limits) nothing ms (run (service limits) (length old.servers) new.downs events)
   pub promised : UptoApart (service limits) nothing (IsAsPromised (service limits)) ms
-  -- at every moment, whatever servers fail
-  pub calm : Always (IsServed (service limits)) ms
+  -- where no record harms, at every moment, whatever servers fail
+  pub calm : All IsHarmless events → Always (IsServed (service limits)) ms
   pub told : IsTold (end_of limits (length old.servers) ms)
   pub requests : (end_of limits (length old.servers) ms).state.requests ≡ requests_of events
   -- the server of each live replica holds exactly its array

@@ -3,6 +3,7 @@
 mod calls;
 mod checkpoints;
 mod faults;
+mod harm;
 mod mount;
 mod names;
 mod replicas;

@@ -177,7 +177,7 @@ start_bench S servers downs = (
     by m r h false = h
 
 -- what is known of the service
-service_begins : (limits : Limits) → ((service limits).f ≡ limits.f) × ((service limits).empty ≡ empty_array limits.n)
+pub service_begins : (limits : Limits) → ((service limits).f ≡ limits.f) × ((service limits).empty ≡ empty_array limits.n)
 unfolding service
 service_begins limits = (refl, refl)
 
@@ -209,8 +209,6 @@ module _ {X : Type 0} (state : X → Server) (limits : Limits) (sized : IsSized 
     stands = subst (StandsAt state limits s t) (sym (service_begins limits).1) h.1;
     keeps = subst (λ (j : Seat). IsKeptBy j (begins (service limits) 0 (service limits).empty)) (sym h.0)
         (keeps_begun limits);
-    lies = refl;
-    harmed = refl;
   }
 
   array_seat : (b : Bool) (seat : Option Seat) (k : Seat) (s : Option X) (t : Option ConfTable) → seat ≡ Some k →

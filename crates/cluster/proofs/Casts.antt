@@ -18,19 +18,19 @@ use Rattle.cluster_model.specs.Service.{Service}
 use Rattle.cluster_model.specs.Tree.{root_of}
 use Rattle.cluster_model.specs.State.{Running, Lies, lookup, has, or_else}
 use Rattle.cluster_model.specs.Moments.{Moment, adds_word, adds_root, decision_line, decides, becomes_stable, votes, root_votes, casts_word, casts_root, counts_word, counts_root, is_decided}
-use Rattle.cluster_model.specs.Turns.{takes_checkpoint, honest, ran, checked, is_checkpoint, casts_root_of}
+use Rattle.cluster_model.specs.Turns.{takes_checkpoint, ran, skipped, checked, is_checkpoint, casts_root_of}
 use Rattle.service_laws.specs.Served.{IsSized, service}
 use Rattle.partition_tree.specs.Digests.{IsRoot}
 use Rattle.replica.specs.declared.Replica.{Replica as Seat}
 use Rattle.replica.specs.declared.Cast.{Cast}
-use Rattle.replica.specs.Replicas.{IsOver, IsRootWord, passed}
+use Rattle.replica.specs.Replicas.{IsOver, IsRootWord, passed, checked as keeps_checked, skipped as keeps_skipped}
 use Rattle.reply_vote.specs.Ballots.{Ballot}
 use Rattle.conf_map.specs.Stands.{AreWithin}
 use Rattle.cluster.specs.OverBench.{Kept, IsKeptBy, IsState, is_size}
 use Rattle.cluster.specs.Casting.{SameButWords, SameButRoots, CastCases, Late, Stood, Decided, RootCases, Low, Waits, IsStable, RootedIf, Voted}
 use Rattle.cluster.proofs.States.{state_adds, state_decides, votes_are}
 use Rattle.cluster.proofs.RootStates.{state_adds_root, state_stable, root_votes_are}
-use Rattle.cluster.proofs.Checkpoints.{keeps_passed, root_is}
+use Rattle.cluster.proofs.Checkpoints.{keeps_passed, keeps_passed_over, root_is}
 
 -- what is known of the service
 pub record IsService (S : Service) (limits : Limits) : Type 0 where
@@ -41,6 +41,9 @@ pub record IsService (S : Service) (limits : Limits) : Type 0 where
   -- a replica keeps what the model's has, after a request and the checkpoint that is due
   pub keeps : (l : Running) (k : Seat) (q : Request) → IsKeptBy k l → IsOver limits.n k → Valid limits l.array →
       IsKeptBy (passed limits l.array (answer l.array limits q.time q.bytes) k) (checked S (ran S q l))
+  -- nor where a place is passed with no request
+  pub keeps_over : (l : Running) (k : Seat) → IsKeptBy k l → IsOver limits.n k → Valid limits l.array →
+      IsKeptBy (keeps_checked limits l.array (keeps_skipped k)) (checked S (skipped l))
   pub root : (ds : List (List ℕ)) (d : List ℕ) → length ds ≡ limits.n → IsRoot ds d → d ≡ root_of S ds
 
 pub service_is : (limits : Limits) → IsSized limits → IsService (service limits) limits
@@ -51,6 +54,7 @@ service_is limits sized = record {
   next = λ a q. refl;
   word = λ a q. refl;
   keeps = λ l k q h over valid. keeps_passed limits l k q h over valid;
+  keeps_over = λ l k h over valid. keeps_passed_over limits l k h over valid;
   root = λ ds d size is. root_is limits sized ds d size is;
 }
 
@@ -134,7 +138,7 @@ abbrev pub rooted_lines : (r p : ℕ) (o : Option (List ℕ)) (old new : Kept) (
 rooted_lines r p None old new ls ls' h = []
 rooted_lines r p (Some d) old new ls ls' h = root_lines h.cases
 
-rooted_lines_are : (r p : ℕ) (o : Option (List ℕ)) (old new : Kept) (ls ls' : List Line)
+pub rooted_lines_are : (r p : ℕ) (o : Option (List ℕ)) (old new : Kept) (ls ls' : List Line)
     (h : RootedIf r p o old new ls ls') → ls' ≡ ls ++ rooted_lines r p o old new ls ls' h
 rooted_lines_are r p None old new ls ls' h = h.1 ∙ sym (append-nil ls)
 rooted_lines_are r p (Some d) old new ls ls' h = root_lines_are h.cases
@@ -153,25 +157,11 @@ vote_lines_are r cast old new ls ls' v =
     ∙ ap (λ xs. xs ++ more) (lines_are v.replied.cases)
     ∙ append_assoc ls (cast_lines v.replied.cases) more
 
--- a checkpoint changes neither place nor lies nor harm
+-- a checkpoint changes neither place nor array
 pub checked_place : (S : Service) (l : Running) → (checked S l).place ≡ l.place
 checked_place S l = by (is_checkpoint S l.place)
   where
     by : (b : Bool) → (cond b (takes_checkpoint S l) l).place ≡ l.place
-    by true = refl
-    by false = refl
-
-pub checked_lies : (S : Service) (l : Running) → (checked S l).lies ≡ l.lies
-checked_lies S l = by (is_checkpoint S l.place)
-  where
-    by : (b : Bool) → (cond b (takes_checkpoint S l) l).lies ≡ l.lies
-    by true = refl
-    by false = refl
-
-pub checked_harmed : (S : Service) (l : Running) → (checked S l).harmed ≡ l.harmed
-checked_harmed S l = by (is_checkpoint S l.place)
-  where
-    by : (b : Bool) → (cond b (takes_checkpoint S l) l).harmed ≡ l.harmed
     by true = refl
     by false = refl
 
@@ -279,11 +269,11 @@ module _ {X : Type 0} (state : X → Server) where
   -- casting the root word of a replica that took the checkpoint due, or none
   pub state_rooted : (S : Service) (c new : Kept) (servers : List X) (tables : List ConfTable) (r p : ℕ)
       (o : Option (List ℕ)) (ls ls' : List Line) (l : Running) (k : Seat) → IsService S c.limits → r < length c.seats →
-      IsKeptBy k l → l.lies ≡ honest → length k.tree ≡ c.limits.n → p ≡ k.place → IsRootWord c.limits k o →
+      IsKeptBy k l → length k.tree ≡ c.limits.n → p ≡ k.place → IsRootWord c.limits k o →
       (h : RootedIf r p o c new ls ls') → (m : Moment) → IsState state c servers tables m.state →
       IsState state new servers tables (casts_root_of S r l m).state
       × ((casts_root_of S r l m).lines ≡ m.lines ++ rooted_lines r p o c new ls ls' h)
-  state_rooted S c new servers tables r p None ls ls' l k is within keeps lies size place root h m s =
+  state_rooted S c new servers tables r p None ls ls' l k is within keeps size place root h m s =
       let none : is_checkpoint S l.place ≡ false =
       ap (λ n. n % S.k == 0) keeps.place ∙ ap (λ n. k.place % n == 0) is.k ∙ root in
       let same : casts_root_of S r l m ≡ m = ap (λ b. cond b (casts_root S r l.place
@@ -292,12 +282,14 @@ module _ {X : Type 0} (state : X → Server) where
         subst (λ (v : Kept). IsState state v servers tables m.state) (sym h.0) s,
         sym (append-nil m.lines),
       )
-  state_rooted S c new servers tables r p (Some d) ls ls' l k is within keeps lies size place root h m s =
+  state_rooted S c new servers tables r p (Some d) ls ls' l k is within keeps size place root h m s =
       let due : is_checkpoint S l.place ≡ true =
       ap (λ n. n % S.k == 0) keeps.place ∙ ap (λ n. k.place % n == 0) is.k ∙ root.0 in
       let word : or_else (lookup l.place l.lies.roots) (root_of S l.believed) ≡ d =
-      ap (λ (y : Lies). or_else (lookup l.place y.roots) (root_of S l.believed)) lies
-      ∙ ap (root_of S) keeps.believed ∙ sym (is.root k.tree d size root.1) in
+      ap (λ (y : Lies). or_else (lookup l.place y.roots) (root_of S l.believed)) keeps.lies
+      ∙ ap (λ n. or_else (lookup n k.lies.roots) (root_of S l.believed)) keeps.place
+      ∙ ap (λ ds. or_else (lookup k.place k.lies.roots) (root_of S ds)) keeps.believed
+      ∙ ap (or_else (lookup k.place k.lies.roots)) (sym (is.root k.tree root.1.0 size root.1.1)) ∙ sym root.1.2 in
       let same : casts_root_of S r l m ≡ casts_root S r p d m = ap (λ b. cond b (casts_root S r l.place
       (or_else (lookup l.place l.lies.roots) (root_of S l.believed)) m) m) due
       ∙ ap (λ x. casts_root S r l.place x m) word ∙ ap (λ n. casts_root S r n d m) (keeps.place ∙ sym place) in

@@ -15,12 +15,14 @@ use Rattle.cluster_model.specs.declared.Request.{Request}
 use Rattle.cluster_model.specs.Tree as trees
 use Rattle.cluster_model.specs.State.{Checkpoint, Running}
 use Rattle.cluster_model.specs.Turns as turns
+use Rattle.cluster_model.specs.Service.{Service}
+use Rattle.cluster_model.specs.Step.{wiped}
 use Rattle.service_laws.specs.Served.{levels_of, IsSized, service}
 use Rattle.service_laws.proofs.Served.{service_orderly}
 use Rattle.partition_tree.specs.Digests.{numbers, digest_at, IsRoot, IsTreeSize}
 use Rattle.cow_checkpoint.specs.Store.{Store, fresh, saves, saves_newest, notices, all_noticed}
 use Rattle.replica.specs.declared.Replica.{Replica as Seat}
-use Rattle.replica.specs.Replicas.{IsOver, digests_from, digests_of, begun, refreshed, told_of, takes_checkpoint, checked, passed, is_due}
+use Rattle.replica.specs.Replicas.{IsOver, digests_from, digests_of, begun, refreshed, told_of, takes_checkpoint, checked, passed, is_due, harm, skipped}
 use Rattle.replica.proofs.Told.{answer_within}
 use Rattle.replica.proofs.Overs.{over_begun, over_told, told-all_noticed}
 use Rattle.cluster.specs.OverBench.{IsKeptBy, is_size}
@@ -140,6 +142,8 @@ module _ (limits : Limits) (A : List Entry) (k : Seat) (l : Running) (h : IsKept
     believed = digests_same;
     told = refl;
     holds = λ i. fresh (h.place i) (digests_same i) ∷ h.holds i;
+    lies = h.lies;
+    harmed = h.harmed;
   }
 
   keeps_checked : IsKeptBy (checked limits A k) (turns.checked (service limits) l)
@@ -167,6 +171,8 @@ keeps_ran limits l k q h valid =
       told = ap (λ is. is ++ told) h.told ∙ sym (told-all_noticed A told k.store);
       holds = ap (turns.saves_newest (service limits) A told) h.holds
           ∙ holds_same limits A told k.store (answer_within A limits q.time valid q.bytes);
+      lies = h.lies;
+      harmed = h.harmed;
     }
 
 -- the array after a request
@@ -191,6 +197,48 @@ keeps_passed limits l k q h over valid =
     keeps_checked limits a.array j (turns.ran (service limits) q l) (keeps_ran limits l k q h valid)
     (array_is limits l q) (subst (λ n. All (λ i. i < n) j.store.told) (sym size) over'.told)
 
+-- HARM
+
+-- what is kept of a replica is kept of a harmed one
+pub keeps_harmed : (l : Running) (k : Seat) → IsKeptBy k l → IsKeptBy (harm k) (turns.harm l)
+keeps_harmed l k h = record {
+  place = h.place;
+  believed = h.believed;
+  told = h.told;
+  holds = h.holds;
+  lies = h.lies;
+  harmed = refl;
+}
+
+-- its array is not among what is kept
+pub keeps_wiped : (S : Service) (l : Running) (k : Seat) → IsKeptBy k l → IsKeptBy (harm k) (turns.harm (wiped S l))
+keeps_wiped S l k h = record {
+  place = h.place;
+  believed = h.believed;
+  told = h.told;
+  holds = h.holds;
+  lies = h.lies;
+  harmed = refl;
+}
+
+keeps_skipped : (l : Running) (k : Seat) → IsKeptBy k l → IsKeptBy (skipped k) (turns.skipped l)
+keeps_skipped l k h = record {
+  place = ap suc h.place;
+  believed = h.believed;
+  told = h.told;
+  holds = h.holds;
+  lies = h.lies;
+  harmed = refl;
+}
+
+-- a place that is passed with no request
+pub keeps_passed_over : (limits : Limits) (l : Running) (k : Seat) → IsKeptBy k l → IsOver limits.n k →
+    Valid limits l.array →
+    IsKeptBy (checked limits l.array (skipped k)) (turns.checked (service limits) (turns.skipped l))
+keeps_passed_over limits l k h over valid =
+    keeps_checked limits l.array (skipped k) (turns.skipped l) (keeps_skipped l k h) refl
+    (subst (λ n. All (λ i. i < n) k.store.told) (sym valid.size) over.told)
+
 -- THE BEGINNING
 
 begin_digests : (limits : Limits) →
@@ -204,6 +252,8 @@ keeps_begun limits = record {
   believed = begin_digests limits;
   told = refl;
   holds = λ i. fresh 0 (begin_digests limits i) ∷ [];
+  lies = refl;
+  harmed = refl;
 }
 
 pub empty_root_is : (limits : Limits) → IsSized limits → (d : List ℕ) → IsRoot (digests_of (empty_array limits.n)) d →

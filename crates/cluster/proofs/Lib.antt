@@ -16,3 +16,5 @@ pub mod StepClauses
 pub mod Ends
 pub mod Beginning
 pub mod BeginClauses
+pub mod Harms
+pub mod Wipes

@@ -1,5 +1,5 @@
 -- Claims on positions of a bench, over a write at one of them.
-use Rattle.std.proofs.Common.{◌≡◌, ℕ, ◌<◌, List, Some, Result, Ok, Err, IfOk, length, get_or, slice_get, slice_set, refl, subst}
+use Rattle.std.proofs.Common.{◌≡◌, ℕ, ◌<◌, List, Option, Some, Result, Ok, Err, IfOk, length, get_or, slice_get, slice_set, refl, subst}
 use Rattle.std.specs.Prelude.{OnOk}
 use Rattle.std.proofs.lemmas.List.{length-set}
 use Rattle.std.proofs.lemmas.Option.{slice_get_within, slice_get_read, slice_get-get_or}
@@ -13,10 +13,10 @@ use Rattle.conf_map.specs.Stands.{StandsValid}
 use Rattle.conf_map.specs.Notice.{Watched}
 use Rattle.conf_map.proofs.InStep.{slice_get-set_other, slice_get-set_same}
 use Rattle.cluster_model.specs.declared.Request.{Request}
-use Rattle.replica.specs.Passed.{Passed}
+use Rattle.replica.specs.Passed.{Passed, Skipped}
 use Rattle.replica.specs.declared.running.Cast.{Cast}
 use Rattle.replica.specs.declared.running.Replica.{Replica}
-use Rattle.cluster.specs.Positions.{StandsAt, ChangesAt, WatchedAt, PassedAt}
+use Rattle.cluster.specs.Positions.{StandsAt, ChangesAt, WatchedAt, PassedAt, SkippedAt}
 
 pub changes_set : {X : Type 0} (xs : List X) (r : ℕ) (v : X) → ChangesAt r xs (slice_set xs r v)
 changes_set xs r v = record { size = length-set xs r v; others = λ k ne. slice_get-set_other xs r k v ne }
@@ -70,6 +70,30 @@ module _ {X : Type 0} (state : X → Server) (xs : List X) (tables : List ConfTa
   }
   passed_at (Err e) q k k' h = tt
 
+  pub skipped_at : (result : Result (Option (List ℕ)) WrapErr) (k k' : Replica) →
+      IfOk result (λ o. Skipped limits (state x).tree (state v).tree t k k' o) →
+      IfOk result (λ o. SkippedAt state limits (slice_get xs r) (slice_get tables r) (slice_get (slice_set xs r v) r)
+      (slice_get tables r) k k' o)
+  skipped_at (Ok o) k k' h = record {
+    step = λ A s.
+        let same_s : s.server ≡ x = some_same s.is_server here_x in
+        let same_t : s.table ≡ t = some_same s.is_table here_t in
+        let st : StandsValid limits (state x).tree t A = subst (λ y. StandsValid limits (state y).tree t A) same_s
+        (subst (λ u. StandsValid limits (state s.server).tree u A) same_t s.stands) in
+        let out = h.step A st in (
+          record {
+            server = v;
+            table = t;
+            is_server = slice_get-set_same xs r v x here_x;
+            is_table = here_t;
+            stands = out.0;
+          },
+          out.1,
+        );
+    root_word = h.root_word;
+  }
+  skipped_at (Err e) k k' h = tt
+
   pub stands_here : StandsValid limits (state x).tree t A₀
   stands_here = subst (λ y. StandsValid limits (state y).tree t A₀) (some_same h₀.is_server here_x)
       (subst (λ u. StandsValid limits (state h₀.server).tree u A₀) (some_same h₀.is_table here_t) h₀.stands)
@@ -90,7 +114,7 @@ module _ {X : Type 0} (state : X → Server) (xs : List X) (tables : List ConfTa
     watched = h;
   }
 
-  pub fresh_stands : (limits : Limits) (A : List Entry) (result : Result Replica WrapErr) →
+  pub fresh_stands : {R : Type 0} (limits : Limits) (A : List Entry) (result : Result R WrapErr) →
       OnOk result (StandsValid limits (state v).tree w A) →
       OnOk result (StandsAt state limits (slice_get (slice_set xs r v) r) (slice_get (slice_set tables r w) r) A)
   fresh_stands limits A (Ok k) h = record {

@@ -83,9 +83,9 @@ module _ {X : Type 0} (state : X → Server) where
       believed = h.keeps.believed;
       told = h.keeps.told;
       holds = ap (from_place p) h.keeps.holds;
+      lies = h.keeps.lies;
+      harmed = h.keeps.harmed;
     };
-    lies = h.lies;
-    harmed = h.harmed;
   }
 
   -- a root word that is cast for a place above the stable one stands

@@ -87,7 +87,7 @@ rooted_live r p d old new ls ls' (Waits high cast stable root seats l few) =
 rooted_live r p d old new ls ls' (IsStable high mid cast drop stable root seen l enough) =
     (seen.size, seen_seats p old.seats new.seats seen)
 
-rooted_if : (r p : ℕ) (o : Option (List ℕ)) (old new : Kept) (ls ls' : List Line) → RootedIf r p o old new ls ls' →
+pub rooted_if : (r p : ℕ) (o : Option (List ℕ)) (old new : Kept) (ls ls' : List Line) → RootedIf r p o old new ls ls' →
     SameLive old new
 rooted_if r p None old new ls ls' h = record {
   limits = ap (λ (c : Kept). c.limits) h.0;

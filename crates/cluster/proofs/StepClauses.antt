@@ -30,8 +30,8 @@ use Rattle.cluster_model.proofs.Struck.{word_bench, root_bench}
 use Rattle.cluster_model.proofs.Voted.{Always-last}
 use Rattle.service_laws.specs.Served.{service}
 use Rattle.cluster.specs.OverBench.{Kept, IsState}
-use Rattle.cluster.specs.Steps.{ArePointsOf, Follows, Steps}
-use Rattle.cluster.specs.Turned.{points, points_of, FailAs, AreStruckBy, Turned, Stays, IsIdle, RanRounds}
+use Rattle.cluster.specs.Steps.{ArePointsOf, Follows, Steps, asked_by}
+use Rattle.cluster.specs.Turned.{points, points_of, first_slot, FailAs, AreStruckBy, TurnedBy, Turned, Stays, IsIdle, RanRounds}
 use Rattle.cluster.specs.Went.{Went}
 use Rattle.cluster.proofs.Faults.{fails_as, slots_differ, points_low, slots_within, point_here, point_low}
 use Rattle.cluster.proofs.Struck.{struck_none}
@@ -204,6 +204,65 @@ module _ {X : Type 0} (state : X → Server) where
           (subst (λ (k : Moment). IsState state b sb tb k.state × (k.lines ≡ m.lines ++ lb)) (sym is)
           (out.0, out.1 ∙ ap (λ ls. m.lines ++ ls) (sym lines_is)))
           (subst (λ ls. AreStruckBy state ls sa sb) (sym lines_is) h.struck));
+    }
+
+  -- A RECORD OF ONE REPLICA, ITS SERVER FAILING OR NOT
+
+  module _ (e : Event) (does : Faults → Moment → Moment) (a b : Kept) (sa sb : List X) (ta tb : List ConfTable)
+      (mb : List FaultPoint) (lb : List Line) (asks : asked_by e ≡ [])
+      (no_swap : (r spare : ℕ) → e ≡ Swap r spare → ⊥)
+      (exact : (faults : Faults) (m : Moment) →
+      LooseStep (service a.limits) faults e m (step (service a.limits) faults e m))
+      (does_it : (faults : Faults) (m : Moment) → step (service a.limits) faults e m ≡ does faults m ∷ []) where
+    -- what does it leads to a state that cluster and bench stand for
+    follows_by : (m : Moment) → IsState state a sa ta m.state →
+        (let n = does (faults_in mb (suc a.events)) m in
+        IsState state b sb tb n.state × (n.lines ≡ m.lines ++ lb)) → AreStruckBy state lb sa sb →
+        Follows state a b sa sb tb mb e lb m
+    follows_by m s out struck =
+        let S = service a.limits in
+        let faults = faults_in mb (suc a.events) in
+        let is : last m (step S faults e m) ≡ does faults m = ap (last m) (does_it faults m) in
+        step_follows a b sa sb ta tb mb e lb m s no_swap (exact faults m)
+        (subst (λ (k : Moment). IsState state b sb tb k.state × (k.lines ≡ m.lines ++ lb)) (sym is) out) struck
+
+    pub went_by : (r : ℕ) (ma : List FaultPoint) (la : List Line) → ma ≡ [] → la ≡ [] → r < 3 * a.limits.f + 1 →
+        TurnedBy state does (first_slot r) a b sa sb ta tb ma mb la lb → Stays a b → Went state e a b sa sb ta tb mb lb
+    went_by r ma la no_met no_lines small h same =
+        let t = first_slot r in
+        let met_is : mb ≡ points (suc a.events) t h.fault =
+        h.met_are ∙ ap (λ ps. ps ++ points (suc a.events) t h.fault) no_met in
+        let lines_is : lb ≡ h.more = h.lines_are ∙ ap (λ ls. ls ++ h.more) no_lines in
+        let failed : faults_in mb (suc a.events) 0 r ≡ h.fault = ap (λ ps. faults_in ps (suc a.events) 0 r) met_is
+        ∙ point_here (suc a.events) t h.fault in
+        record {
+          numbered = subst (ArePointsOf a.limits (suc a.events)) (sym met_is)
+              (point_low a.limits (suc a.events) t h.fault small);
+          lines_are = ap (map (λ (d : FaultPoint). d.replica)) met_is ∙ sym h.tells
+              ∙ ap (flat_map failed_of) (sym lines_is);
+          limits = same.limits;
+          requests = same.requests ∙ sym (append-nil a.requests) ∙ ap (λ q. a.requests ++ q) (sym asks);
+          events = same.events;
+          moves = λ m s. (
+              let out = h.moves (faults_in mb (suc a.events)) failed m s in
+              follows_by m s (out.0, out.1 ∙ ap (λ ls. m.lines ++ ls) (sym lines_is))
+              (subst (λ ls. AreStruckBy state ls sa sb) (sym lines_is) h.struck));
+        }
+
+    -- no server was asked
+    pub went_still : mb ≡ [] → flat_map failed_of lb ≡ [] → sb ≡ sa → Stays a b →
+        ((faults : Faults) (m : Moment) → IsState state a sa ta m.state →
+        IsState state b sb tb (does faults m).state × ((does faults m).lines ≡ m.lines ++ lb)) →
+        Went state e a b sa sb ta tb mb lb
+    went_still no_points quiet bench same moves = record {
+      numbered = subst (ArePointsOf a.limits (suc a.events)) (sym no_points)
+          (All-nil (λ (d : FaultPoint). (d.event ≡ suc a.events) × (d.replica < 3 * a.limits.f + 1)));
+      lines_are = ap (map (λ (d : FaultPoint). d.replica)) no_points ∙ sym quiet;
+      limits = same.limits;
+      requests = same.requests ∙ sym (append-nil a.requests) ∙ ap (λ q. a.requests ++ q) (sym asks);
+      events = same.events;
+      moves = λ m s. follows_by m s (moves (faults_in mb (suc a.events)) m s)
+          (subst (λ l. AreStruckBy state lb sa l) (sym bench) (struck_none state lb sa quiet));
     }
 
 -- the replica had no turn: a line says why

@@ -20,20 +20,20 @@ use Rattle.log_format.specs.declared.Line.{Line}
 use Rattle.log_format.specs.declared.Line.TheVariants as lines
 use Rattle.log_format.specs.declared.IdleCause.{IdleCause}
 use Rattle.cluster_model.specs.declared.Request.{Request}
-use Rattle.cluster_model.specs.Moments.{Moment, decision_line}
+use Rattle.cluster_model.specs.Moments.{Moment, Faults, decision_line}
 use Rattle.cluster_model.specs.Turns.{Slot, Not, turn, slot_turn}
 use Rattle.cluster_model.specs.Run.{failed_of}
 use Rattle.service_laws.specs.Served.{IsSized, service}
 use Rattle.replica.specs.declared.Replica.{Replica as Seat}
 use Rattle.replica.specs.declared.Cast.{Cast}
-use Rattle.replica.specs.Replicas.{IsOver}
-use Rattle.cluster.specs.Positions.{StandsAt, PassedAt, ChangesAt, WatchedAt, AreLater}
+use Rattle.replica.specs.Replicas.{IsOver, harm}
+use Rattle.cluster.specs.Positions.{StandsAt, PassedAt, SkippedAt, ChangesAt, WatchedAt, AreLater}
 use Rattle.cluster.specs.OverBench.{Kept, IsState, HaveArrays, HaveRoom}
 use Rattle.cluster.specs.Casting.{CastCases, Late, Stood, Decided, RootCases, Low, Waits, IsStable, RootedIf, Voted}
-use Rattle.cluster.specs.Turned.{Turned, TurnStays}
+use Rattle.cluster.specs.Turned.{TurnedBy, Turned, TurnStays, rogue_by, skip_by, first_slot}
 use Rattle.cluster.proofs.ListFacts.{flat_map-append}
-use Rattle.cluster.proofs.Casts.{service_is, cast_lines, root_lines, rooted_lines, vote_lines, vote_lines_are}
-use Rattle.cluster.proofs.Turns.{turn_runs, turn_fails, idle_same}
+use Rattle.cluster.proofs.Casts.{IsService, service_is, cast_lines, root_lines, rooted_lines, rooted_lines_are, vote_lines, vote_lines_are}
+use Rattle.cluster.proofs.Turns.{turn_runs, turn_fails, rogue_runs, rogue_fails, skip_skips, skip_fails, idle_same}
 use Rattle.cluster.proofs.Struck.{struck_none, struck_ok, struck_down, room_later}
 
 pub at_index : {X : Type 0} (xs : List X) (r : ℕ) (x y : X) → r < length xs → x ≡ get_or xs r x → x ≡ y →
@@ -95,55 +95,48 @@ module _ {X : Type 0} (state : X → Server) where
         (h, sym (append-nil m.lines)));
   }
 
-  pub turned_runs : (c mid new : Kept) (servers servers' : List X) (tables tables' : List ConfTable) (r : ℕ)
-      (k k' : Seat) (q : Request) (met : List FaultPoint) (ls ls' : List Line) (t : Slot)
-      (result : Result Cast WrapErr) (cast : Cast) → result ≡ Ok cast → IsSized c.limits →
-      r < length c.seats → slice_get c.seats r ≡ Some (Some k) → slice_get c.requests k.place ≡ Some q →
-      nat_lt (k.place + c.limits.k) c.stable ≡ false → IsOver c.limits.n k → IsOver c.limits.n k' →
-      WatchedAt state (slice_get servers r) (slice_get servers' r) result →
-      PassedAt state c.limits q (slice_get servers r) (slice_get tables r) (slice_get servers' r)
-      (slice_get tables' r) k k' cast →
-      ChangesAt r servers servers' → ChangesAt r tables tables' →
-      mid ≡ record c { seats = slice_set c.seats r (Some k') } → Voted r cast mid new ls ls' → t.replica ≡ r →
-      Turned state t c new servers servers' tables tables' met met ls ls'
-  turned_runs c mid new servers servers' tables tables' r k k' q met ls ls' t result cast ok sized within is_seat
-      is_request near over over' watched ans sv tb mid_is voted t_is =
-      let v : Voted r cast (record c { seats = slice_set c.seats r (Some k') }) new ls ls' =
-      subst (λ (m : Kept). Voted r cast m new ls ls') mid_is voted in
+  -- a turn in which no server failed
+  pub turned_ok : {T : Type 0} (does : Faults → Moment → Moment) (c new : Kept) (servers servers' : List X)
+      (tables tables' : List ConfTable) (r : ℕ) (met : List FaultPoint) (ls ls' more : List Line) (t : Slot)
+      (result : Result T WrapErr) (x : T) → result ≡ Ok x →
+      WatchedAt state (slice_get servers r) (slice_get servers' r) result → ChangesAt r servers servers' →
+      ls' ≡ ls ++ more → flat_map failed_of more ≡ [] →
+      ((faults : Faults) → faults t.round t.replica ≡ false → (m : Moment) → IsState state c servers tables m.state →
+      IsState state new servers' tables' (does faults m).state × ((does faults m).lines ≡ m.lines ++ more)) →
+      TurnedBy state does t c new servers servers' tables tables' met met ls ls'
+  turned_ok does c new servers servers' tables tables' r met ls ls' more t result x ok watched sv lines_are quiet moves =
       let here : r < length servers = slice_get_within servers r watched.before watched.is_before in
-      let quiet = ok_count result cast ok watched in
-      let set : Kept = record c { seats = slice_set c.seats r (Some k') } in
-      let more = vote_lines r cast set new ls ls' v in
       record {
         fault = false;
         more = more;
         met_are = sym (append-nil met);
-        lines_are = vote_lines_are r cast set new ls ls' v;
-        tells = vote_quiet r cast set new ls ls' v;
+        lines_are = lines_are;
+        tells = quiet;
         size = sv.size;
-        struck = struck_ok state servers servers' r here sv result watched more
-            (vote_quiet r cast set new ls ls' v) watched.watched.limits quiet;
-        moves = turn_runs state (service c.limits) c (service_is c.limits sized) servers tables r k q within is_seat
-            is_request near new servers' tables' k' cast ls ls' t t_is over over' ans sv tb v;
+        struck = struck_ok state servers servers' r here sv result watched more quiet watched.watched.limits
+            (ok_count result x ok watched);
+        moves = moves;
       }
     where
-      ok_count : (result : Result Cast WrapErr) (cast : Cast) → result ≡ Ok cast →
+      ok_count : {T : Type 0} (result : Result T WrapErr) (x : T) → result ≡ Ok x →
           (h : WatchedAt state (slice_get servers r) (slice_get servers' r) result) →
           (state h.after).faults ≡ (state h.before).faults
-      ok_count (Ok x) cast ok h = h.watched.faults
-      ok_count (Err x) cast ok h = absurd (cc)
+      ok_count (Ok y) x ok h = h.watched.faults
+      ok_count (Err y) x ok h = absurd (cc)
 
-  pub turned_fails : (c new : Kept) (servers servers' : List X) (tables tables' : List ConfTable) (r : ℕ) (k : Seat)
-      (q : Request) (met met' : List FaultPoint) (ls ls' : List Line) (t : Slot) (result : Result Cast WrapErr) →
-      result ≡ Err errors.Down → IsSized c.limits → r < length c.seats → slice_get c.seats r ≡ Some (Some k) →
-      slice_get c.requests k.place ≡ Some q → nat_lt (k.place + c.limits.k) c.stable ≡ false →
-      WatchedAt state (slice_get servers r) (slice_get servers' r) result →
-      ChangesAt r servers servers' → ChangesAt r tables tables' →
+  -- a turn in which its server failed
+  pub turned_down : {T : Type 0} (does : Faults → Moment → Moment) (c new : Kept) (servers servers' : List X)
+      (tables tables' : List ConfTable) (r : ℕ) (met met' : List FaultPoint) (ls ls' : List Line) (t : Slot)
+      (result : Result T WrapErr) → result ≡ Err errors.Down →
+      WatchedAt state (slice_get servers r) (slice_get servers' r) result → ChangesAt r servers servers' →
       new ≡ record c { seats = slice_set c.seats r None } → ls' ≡ ls ++ lines.Down r ∷ [] →
       met' ≡ met ++ record { event = c.events + 1; stage = t.round; replica = t.replica } ∷ [] → t.replica ≡ r →
-      Turned state t c new servers servers' tables tables' met met' ls ls'
-  turned_fails c new servers servers' tables tables' r k q met met' ls ls' t result down sized within is_seat is_request
-      near watched sv tb new_is said met_is t_is =
+      ((faults : Faults) → faults t.round t.replica ≡ true → (m : Moment) → IsState state c servers tables m.state →
+      IsState state (record c { seats = slice_set c.seats r None }) servers' tables' (does faults m).state
+      × ((does faults m).lines ≡ m.lines ++ lines.Down r ∷ [])) →
+      TurnedBy state does t c new servers servers' tables tables' met met' ls ls'
+  turned_down does c new servers servers' tables tables' r met met' ls ls' t result down watched sv new_is said met_is
+      t_is moves =
       let e : c.events + 1 ≡ suc c.events = omega arith in
       let here : r < length servers = slice_get_within servers r watched.before watched.is_before in
       record {
@@ -156,19 +149,110 @@ module _ {X : Type 0} (state : X → Server) where
         size = sv.size;
         struck = struck_down state servers servers' r here sv result watched watched.watched.limits
             (rose result down watched);
-        moves = λ faults struck m h. subst (λ (v : Kept). IsState state v servers' tables'
-            (slot_turn (service c.limits) faults m t).state
-            × ((slot_turn (service c.limits) faults m t).lines ≡ m.lines ++ lines.Down r ∷ [])) (sym new_is)
-            (turn_fails state (service c.limits) c (service_is c.limits sized) servers tables r k q within is_seat
-            is_request near servers' tables' t t_is sv tb faults struck m h);
+        moves = λ faults struck m h. subst (λ (v : Kept). IsState state v servers' tables' (does faults m).state
+            × ((does faults m).lines ≡ m.lines ++ lines.Down r ∷ [])) (sym new_is) (moves faults struck m h);
       }
     where
-      rose : (result : Result Cast WrapErr) → result ≡ Err errors.Down →
+      rose : {T : Type 0} (result : Result T WrapErr) → result ≡ Err errors.Down →
           (h : WatchedAt state (slice_get servers r) (slice_get servers' r) result) →
           Rose (state h.before).faults (state h.after).faults
       rose (Ok x) down h = absurd (cc)
       rose (Err errors.Down) down h = h.watched.faults.1
       rose (Err errors.NoMemory) down h = absurd (cc)
+
+  module _ (c : Kept) (servers servers' : List X) (tables tables' : List ConfTable) (r : ℕ) (k : Seat) (q : Request)
+      (sized : IsSized c.limits) (within : r < length c.seats) (is_seat : slice_get c.seats r ≡ Some (Some k))
+      (is_request : slice_get c.requests k.place ≡ Some q) (near : nat_lt (k.place + c.limits.k) c.stable ≡ false)
+      (sv : ChangesAt r servers servers') (tb : ChangesAt r tables tables') where
+    is_service : IsService (service c.limits) c.limits
+    is_service = service_is c.limits sized
+
+    pub turned_runs : (mid new : Kept) (k' : Seat) (met : List FaultPoint) (ls ls' : List Line) (t : Slot)
+        (result : Result Cast WrapErr) (cast : Cast) → result ≡ Ok cast → IsOver c.limits.n k → IsOver c.limits.n k' →
+        WatchedAt state (slice_get servers r) (slice_get servers' r) result →
+        PassedAt state c.limits q (slice_get servers r) (slice_get tables r) (slice_get servers' r)
+        (slice_get tables' r) k k' cast →
+        mid ≡ record c { seats = slice_set c.seats r (Some k') } → Voted r cast mid new ls ls' → t.replica ≡ r →
+        Turned state t c new servers servers' tables tables' met met ls ls'
+    turned_runs mid new k' met ls ls' t result cast ok over over' watched ans mid_is voted t_is =
+        let set : Kept = record c { seats = slice_set c.seats r (Some k') } in
+        let v : Voted r cast set new ls ls' = subst (λ (m : Kept). Voted r cast m new ls ls') mid_is voted in
+        turned_ok (λ faults m. slot_turn (service c.limits) faults m t) c new servers servers' tables tables' r met ls ls'
+        (vote_lines r cast set new ls ls' v) t result cast ok watched sv (vote_lines_are r cast set new ls ls' v)
+        (vote_quiet r cast set new ls ls' v)
+        (λ faults sound m h. turn_runs state (service c.limits) c is_service servers tables r k q within is_seat
+        is_request near servers' tables' t t_is sv tb faults m h new k' cast ls ls' over over' ans v sound)
+
+    pub turned_fails : (new : Kept) (met met' : List FaultPoint) (ls ls' : List Line) (t : Slot)
+        (result : Result Cast WrapErr) → result ≡ Err errors.Down →
+        WatchedAt state (slice_get servers r) (slice_get servers' r) result →
+        new ≡ record c { seats = slice_set c.seats r None } → ls' ≡ ls ++ lines.Down r ∷ [] →
+        met' ≡ met ++ record { event = c.events + 1; stage = t.round; replica = t.replica } ∷ [] → t.replica ≡ r →
+        Turned state t c new servers servers' tables tables' met met' ls ls'
+    turned_fails new met met' ls ls' t result down watched new_is said met_is t_is =
+        turned_down (λ faults m. slot_turn (service c.limits) faults m t) c new servers servers' tables tables' r met met'
+        ls ls' t result down watched sv new_is said met_is t_is
+        (λ faults struck m h. turn_fails state (service c.limits) c is_service servers tables r k q within is_seat
+        is_request near servers' tables' t t_is sv tb faults m h struck)
+
+    -- another request in place of its own
+    pub turned_rogue : (rq : Request) (mid new : Kept) (k' : Seat) (met : List FaultPoint) (ls ls' : List Line)
+        (result : Result Cast WrapErr) (cast : Cast) → result ≡ Ok cast → IsOver c.limits.n k → IsOver c.limits.n k' →
+        WatchedAt state (slice_get servers r) (slice_get servers' r) result →
+        PassedAt state c.limits rq (slice_get servers r) (slice_get tables r) (slice_get servers' r)
+        (slice_get tables' r) (harm k) k' cast →
+        mid ≡ record c { seats = slice_set c.seats r (Some k') } → Voted r cast mid new ls ls' →
+        TurnedBy state (rogue_by c r rq) (first_slot r) c new servers servers' tables tables' met met ls ls'
+    turned_rogue rq mid new k' met ls ls' result cast ok over over' watched ans mid_is voted =
+        let set : Kept = record c { seats = slice_set c.seats r (Some k') } in
+        let v : Voted r cast set new ls ls' = subst (λ (m : Kept). Voted r cast m new ls ls') mid_is voted in
+        turned_ok (rogue_by c r rq) c new servers servers' tables tables' r met ls ls'
+        (vote_lines r cast set new ls ls' v) (first_slot r) result cast ok watched sv
+        (vote_lines_are r cast set new ls ls' v) (vote_quiet r cast set new ls ls' v)
+        (λ faults sound m h. rogue_runs state (service c.limits) c is_service servers tables r k q within is_seat
+        is_request near servers' tables' (first_slot r) refl sv tb faults m h rq new k' cast ls ls' over over' ans v sound)
+
+    pub turned_rogue_fails : (rq : Request) (new : Kept) (met met' : List FaultPoint) (ls ls' : List Line)
+        (result : Result Cast WrapErr) → result ≡ Err errors.Down →
+        WatchedAt state (slice_get servers r) (slice_get servers' r) result →
+        new ≡ record c { seats = slice_set c.seats r None } → ls' ≡ ls ++ lines.Down r ∷ [] →
+        met' ≡ met ++ record { event = c.events + 1; stage = 0; replica = r } ∷ [] →
+        TurnedBy state (rogue_by c r rq) (first_slot r) c new servers servers' tables tables' met met' ls ls'
+    turned_rogue_fails rq new met met' ls ls' result down watched new_is said met_is =
+        turned_down (rogue_by c r rq) c new servers servers' tables tables' r met met' ls ls' (first_slot r) result down
+        watched sv new_is said met_is refl
+        (λ faults struck m h. rogue_fails state (service c.limits) c is_service servers tables r k q within is_seat
+        is_request near servers' tables' (first_slot r) refl sv tb faults m h rq struck)
+
+    -- no request in its place
+    pub turned_skip : (mid new : Kept) (k' : Seat) (met : List FaultPoint) (ls ls' : List Line)
+        (result : Result (Option (List ℕ)) WrapErr) (o : Option (List ℕ)) → result ≡ Ok o → IsOver c.limits.n k →
+        IsOver c.limits.n k' → WatchedAt state (slice_get servers r) (slice_get servers' r) result →
+        SkippedAt state c.limits (slice_get servers r) (slice_get tables r) (slice_get servers' r) (slice_get tables' r)
+        k k' o →
+        mid ≡ record c { seats = slice_set c.seats r (Some k') } → RootedIf r k'.place o mid new ls ls' →
+        TurnedBy state (skip_by c r) (first_slot r) c new servers servers' tables tables' met met ls ls'
+    turned_skip mid new k' met ls ls' result o ok over over' watched ans mid_is rooted =
+        let set : Kept = record c { seats = slice_set c.seats r (Some k') } in
+        let v : RootedIf r k'.place o set new ls ls' =
+        subst (λ (m : Kept). RootedIf r k'.place o m new ls ls') mid_is rooted in
+        turned_ok (skip_by c r) c new servers servers' tables tables' r met ls ls'
+        (rooted_lines r k'.place o set new ls ls' v) (first_slot r) result o ok watched sv
+        (rooted_lines_are r k'.place o set new ls ls' v) (rooted_quiet r k'.place o set new ls ls' v)
+        (λ faults sound m h. skip_skips state (service c.limits) c is_service servers tables r k q within is_seat
+        is_request near servers' tables' (first_slot r) refl sv tb faults m h new k' o ls ls' over over' ans v sound)
+
+    pub turned_skip_fails : (new : Kept) (met met' : List FaultPoint) (ls ls' : List Line)
+        (result : Result (Option (List ℕ)) WrapErr) → result ≡ Err errors.Down →
+        WatchedAt state (slice_get servers r) (slice_get servers' r) result →
+        new ≡ record c { seats = slice_set c.seats r None } → ls' ≡ ls ++ lines.Down r ∷ [] →
+        met' ≡ met ++ record { event = c.events + 1; stage = 0; replica = r } ∷ [] →
+        TurnedBy state (skip_by c r) (first_slot r) c new servers servers' tables tables' met met' ls ls'
+    turned_skip_fails new met met' ls ls' result down watched new_is said met_is =
+        turned_down (skip_by c r) c new servers servers' tables tables' r met met' ls ls' (first_slot r) result down
+        watched sv new_is said met_is refl
+        (λ faults struck m h. skip_fails state (service c.limits) c is_service servers tables r k q within is_seat
+        is_request near servers' tables' (first_slot r) refl sv tb faults m h struck)
 
   -- the arrays of live replicas, where one position changed and stands for an array, if its replica is live
   pub arrays_set : (c new : Kept) (servers servers' : List X) (tables tables' : List ConfTable) (r : ℕ)

@@ -19,123 +19,244 @@ use Rattle.cluster_model.specs.declared.Request.{Request}
 use Rattle.cluster_model.specs.Service.{Service}
 use Rattle.cluster_model.specs.State.{Running, Lies, Live, Down, lookup, or_else}
 use Rattle.cluster_model.specs.Moments.{Moment, Faults, replica, becomes, fails, casts_word}
-use Rattle.cluster_model.specs.Turns.{Slot, Next, Not, honest, ran, checked, casts_root_of, runs, turn, turn_in, turn_at, quiet_turn, slot_turn, fails_or}
+use Rattle.cluster_model.specs.Turns.{Slot, Next, Not, ran, skipped, checked, casts_root_of, harm, runs, skips, turn, turn_in, turn_at, quiet_turn, rogue_turn, skip_turn, slot_turn, fails_or}
 use Rattle.replica.specs.declared.Replica.{Replica as Seat}
 use Rattle.replica.specs.declared.Cast.{Cast}
 use Rattle.replica.specs.Replicas.{IsOver, IsRootWord}
-use Rattle.cluster.specs.Positions.{StandsAt, PassedAt, ChangesAt}
+use Rattle.replica.specs.Replicas.{harm as seat_harmed}
+use Rattle.replica.proofs.Overs.{over_harmed}
+use Rattle.cluster.specs.Positions.{StandsAt, PassedAt, SkippedAt, ChangesAt}
 use Rattle.cluster.specs.OverBench.{Kept, IsKeptBy, IsLive, IsSeat, IsState}
-use Rattle.cluster.specs.Casting.{Voted}
+use Rattle.cluster.specs.Casting.{RootedIf, Voted}
 use Rattle.cluster.specs.Turned.{next_in}
 use Rattle.cluster.proofs.ListFacts.{read_is}
 use Rattle.cluster.proofs.Positions.{changes_set}
 use Rattle.cluster.proofs.States.{state_put}
-use Rattle.cluster.proofs.Casts.{IsService, cast_lines, rooted_lines, vote_lines, checked_lies, checked_harmed, checked_array, state_cast, state_rooted}
+use Rattle.cluster.proofs.Casts.{IsService, cast_lines, rooted_lines, vote_lines, checked_array, state_cast, state_rooted}
+use Rattle.cluster.proofs.Checkpoints.{keeps_harmed}
 
-module _ {X : Type 0} (state : X → Server) where
-  -- the turn of a replica that has a request
-  module _ (S : Service) (c : Kept) (is_service : IsService S c.limits)
-      (servers : List X) (tables : List ConfTable) (r : ℕ) (k : Seat) (q : Request) (within : r < length c.seats)
-      (is_seat : slice_get c.seats r ≡ Some (Some k)) (is_request : slice_get c.requests k.place ≡ Some q)
-      (near : nat_lt (k.place + c.limits.k) c.stable ≡ false) where
-    seat_at : (m : Moment) → IsState state c servers tables m.state →
-        IsLive state c.limits k (slice_get servers r) (slice_get tables r) (replica m.state r).condition
-    seat_at m h = subst (λ o. IsSeat state c.limits o (slice_get servers r) (slice_get tables r)
-        (replica m.state r).condition) (read_is c.seats r (Some k) None is_seat) (h.conditions r within)
+-- A REPLICA PASSES A PLACE, OR ITS SERVER FAILS
 
-    next_at : (m : Moment) (h : IsState state c servers tables m.state) → turn S m.state r ≡ Next (seat_at m h).live q
-    next_at m h =
-        let l = (seat_at m h).live in
-        let s = m.state in
-        let at : slice_get s.requests l.place ≡ Some q = ap (λ rs. slice_get rs l.place) h.requests
-        ∙ ap (slice_get c.requests) (seat_at m h).keeps.place ∙ is_request in
-        let here : nat_lt (l.place + S.k) s.stable ≡ false = ap (λ p. nat_lt (p + S.k) s.stable) (seat_at m h).keeps.place
-        ∙ ap (λ n. nat_lt (k.place + n) s.stable) is_service.k ∙ ap (nat_lt (k.place + c.limits.k)) h.stable ∙ near in
-        ap (turn_in S s) (seat_at m h).is_live ∙ ap (turn_at S s l) at ∙ ap (λ b. cond b (Not Behind) (Next l q)) here
+module _ {X : Type 0} (state : X → Server) (S : Service) (c : Kept) (is_service : IsService S c.limits)
+    (servers servers' : List X) (tables tables' : List ConfTable) (r : ℕ) (old : Option Seat)
+    (within : r < length c.seats) (was : slice_get c.seats r ≡ Some old) (sv : ChangesAt r servers servers')
+    (tb : ChangesAt r tables tables') (m : Moment) (h : IsState state c servers tables m.state) where
+  -- live as l with what k keeps, it runs a request and casts its words
+  pub state_runs : (k k' : Seat) (l : Running) (q : Request) (new : Kept) (cast : Cast) (ls ls' : List Line) →
+      IsOver c.limits.n k → IsOver c.limits.n k' →
+      PassedAt state c.limits q (slice_get servers r) (slice_get tables r) (slice_get servers' r)
+      (slice_get tables' r) k k' cast →
+      StandsAt state c.limits (slice_get servers r) (slice_get tables r) l.array → IsKeptBy k l →
+      let mid : Kept = record c { seats = slice_set c.seats r (Some k') } in
+      (v : Voted r cast mid new ls ls') →
+      IsState state new servers' tables' (runs S r l q m).state
+      × ((runs S r l q m).lines ≡ m.lines ++ vote_lines r cast mid new ls ls' v)
+  state_runs k k' l q new cast ls ls' over over' ans stood kept v =
+      let seats = slice_set c.seats r (Some k') in
+      let mid : Kept = record c { seats = seats } in
+      let l' = checked S (ran S q l) in
+      let out = ans.step l.array stood in
+      let array : l'.array ≡ (answer l.array c.limits q.time q.bytes).array =
+      checked_array S (ran S q l) ∙ is_service.next l.array q in
+      let stands' : StandsAt state c.limits (slice_get servers' r) (slice_get tables' r) l'.array =
+      subst (λ a. StandsAt state c.limits (slice_get servers' r) (slice_get tables' r) a) (sym array) out.0 in
+      let keeps : IsKeptBy k' l' = subst (λ (j : Seat). IsKeptBy j l') (sym out.1)
+      (is_service.keeps l k q kept over stood.stands.valid) in
+      let here : IsLive state c.limits k' (slice_get servers' r) (slice_get tables' r) (Live l') =
+      record { live = l'; is_live = refl; stands = stands'; keeps = keeps } in
+      let n = becomes r (Live l') m in
+      let h' : IsState state mid servers' tables' n.state =
+      state_put state c seats servers servers' tables tables' m.state r (Some k') (Live l') h within
+      (changes_set c.seats r (Some k')) (slice_get-set_same c.seats r (Some k') old was) sv tb here in
+      let place : l'.place ≡ cast.place = keeps.place ∙ sym out.2.place in
+      let said : or_else (lookup l'.place l'.lies.words) (S.word l.array q) ≡ cast.word =
+      ap (λ (y : Lies). or_else (lookup l'.place y.words) (S.word l.array q)) keeps.lies
+      ∙ ap (λ p. or_else (lookup p k'.lies.words) (S.word l.array q)) keeps.place
+      ∙ ap (or_else (lookup k'.place k'.lies.words)) (is_service.word l.array q) ∙ sym out.2.word in
+      let is : runs S r l q m ≡ casts_root_of S r l' (casts_word S r cast.place cast.word n) =
+      ap (λ w. casts_root_of S r l' (casts_word S r l'.place w n)) said
+      ∙ ap (λ p. casts_root_of S r l' (casts_word S r p cast.word n)) place in
+      let wide : r < length mid.seats = (let e = length-set c.seats r (Some k') in omega arith) in
+      let one = state_cast state S mid v.mid servers' tables' r cast.place cast.word ls v.between is_service.f wide
+      v.replied.same v.replied.cases n h' in
+      let wide' : r < length v.mid.seats = (let e = ap length v.replied.same.seats in omega arith) in
+      let is_service' : IsService S v.mid.limits = subst (IsService S) (sym v.replied.same.limits) is_service in
+      let root' : IsRootWord v.mid.limits k' cast.root =
+      subst (λ l. IsRootWord l k' cast.root) (sym v.replied.same.limits) out.2.root in
+      let size : length k'.tree ≡ v.mid.limits.n =
+      over'.digests ∙ ap (λ (l : Limits). l.n) (sym v.replied.same.limits) in
+      let two = state_rooted state S v.mid new servers' tables' r cast.place cast.root v.between ls' l' k' is_service' wide'
+      keeps size out.2.place root' v.rooted (casts_word S r cast.place cast.word n) one.0 in
+      subst (λ (x : Moment). IsState state new servers' tables' x.state
+      × (x.lines ≡ m.lines ++ vote_lines r cast mid new ls ls' v)) (sym is) (
+        two.0,
+        two.1 ∙ ap (λ xs. xs ++ rooted_lines r cast.place cast.root v.mid new v.between ls' v.rooted) one.1
+            ∙ append_assoc m.lines (cast_lines v.replied.cases)
+            (rooted_lines r cast.place cast.root v.mid new v.between ls' v.rooted),
+      )
+
+  -- live as l with what k keeps, it passes a place with no request, and casts its root word where it has one
+  pub state_skips : (k k' : Seat) (l : Running) (new : Kept) (o : Option (List ℕ)) (ls ls' : List Line) →
+      IsOver c.limits.n k → IsOver c.limits.n k' →
+      SkippedAt state c.limits (slice_get servers r) (slice_get tables r) (slice_get servers' r) (slice_get tables' r)
+      k k' o →
+      StandsAt state c.limits (slice_get servers r) (slice_get tables r) l.array → IsKeptBy k l →
+      let mid : Kept = record c { seats = slice_set c.seats r (Some k') } in
+      (v : RootedIf r k'.place o mid new ls ls') →
+      IsState state new servers' tables' (skips S r l m).state
+      × ((skips S r l m).lines ≡ m.lines ++ rooted_lines r k'.place o mid new ls ls' v)
+  state_skips k k' l new o ls ls' over over' ans stood kept v =
+      let seats = slice_set c.seats r (Some k') in
+      let mid : Kept = record c { seats = seats } in
+      let l' = checked S (skipped l) in
+      let out = ans.step l.array stood in
+      let array : l'.array ≡ l.array = checked_array S (skipped l) in
+      let stands' : StandsAt state c.limits (slice_get servers' r) (slice_get tables' r) l'.array =
+      subst (λ a. StandsAt state c.limits (slice_get servers' r) (slice_get tables' r) a) (sym array) out.0 in
+      let keeps : IsKeptBy k' l' = subst (λ (j : Seat). IsKeptBy j l') (sym out.1)
+      (is_service.keeps_over l k kept over stood.stands.valid) in
+      let here : IsLive state c.limits k' (slice_get servers' r) (slice_get tables' r) (Live l') =
+      record { live = l'; is_live = refl; stands = stands'; keeps = keeps } in
+      let n = becomes r (Live l') m in
+      let h' : IsState state mid servers' tables' n.state =
+      state_put state c seats servers servers' tables tables' m.state r (Some k') (Live l') h within
+      (changes_set c.seats r (Some k')) (slice_get-set_same c.seats r (Some k') old was) sv tb here in
+      let wide : r < length mid.seats = (let e = length-set c.seats r (Some k') in omega arith) in
+      state_rooted state S mid new servers' tables' r k'.place o ls ls' l' k' is_service wide keeps over'.digests refl
+      ans.root_word v n h'
+
+  -- its server failed
+  pub state_fails : IsState state (record c { seats = slice_set c.seats r None }) servers' tables' (fails r m).state
+      × ((fails r m).lines ≡ m.lines ++ lines.Down r ∷ [])
+  state_fails = (
+    state_put state c (slice_set c.seats r None) servers servers' tables tables' m.state r None Down h within
+        (changes_set c.seats r None) (slice_get-set_same c.seats r None old was) sv tb refl,
+    refl,
+  )
+
+-- THE TURN OF A REPLICA THAT HAS A REQUEST
+
+module _ {X : Type 0} (state : X → Server) (S : Service) (c : Kept) (is_service : IsService S c.limits)
+    (servers : List X) (tables : List ConfTable) (r : ℕ) (k : Seat) (q : Request) (within : r < length c.seats)
+    (is_seat : slice_get c.seats r ≡ Some (Some k)) (is_request : slice_get c.requests k.place ≡ Some q)
+    (near : nat_lt (k.place + c.limits.k) c.stable ≡ false) where
+  pub seat_at : (m : Moment) → IsState state c servers tables m.state →
+      IsLive state c.limits k (slice_get servers r) (slice_get tables r) (replica m.state r).condition
+  seat_at m h = subst (λ o. IsSeat state c.limits o (slice_get servers r) (slice_get tables r)
+      (replica m.state r).condition) (read_is c.seats r (Some k) None is_seat) (h.conditions r within)
+
+  pub next_at : (m : Moment) (h : IsState state c servers tables m.state) →
+      turn S m.state r ≡ Next (seat_at m h).live q
+  next_at m h =
+      let l = (seat_at m h).live in
+      let s = m.state in
+      let at : slice_get s.requests l.place ≡ Some q = ap (λ rs. slice_get rs l.place) h.requests
+      ∙ ap (slice_get c.requests) (seat_at m h).keeps.place ∙ is_request in
+      let here : nat_lt (l.place + S.k) s.stable ≡ false = ap (λ p. nat_lt (p + S.k) s.stable) (seat_at m h).keeps.place
+      ∙ ap (λ n. nat_lt (k.place + n) s.stable) is_service.k ∙ ap (nat_lt (k.place + c.limits.k)) h.stable ∙ near in
+      ap (turn_in S s) (seat_at m h).is_live ∙ ap (turn_at S s l) at ∙ ap (λ b. cond b (Not Behind) (Next l q)) here
+
+  module _ (servers' : List X) (tables' : List ConfTable) (t : Slot) (t_is : t.replica ≡ r)
+      (sv : ChangesAt r servers servers') (tb : ChangesAt r tables tables') (faults : Faults) (m : Moment)
+      (h : IsState state c servers tables m.state) where
+    slot_is : (b : Bool) → faults t.round t.replica ≡ b →
+        slot_turn S faults m t ≡ fails_or b r (runs S r (seat_at m h).live q) m
+    slot_is b fault = ap (λ j. quiet_turn S (faults t.round t.replica) j (turn S m.state j) m) t_is
+        ∙ ap (λ x. quiet_turn S (faults t.round t.replica) r x m) (next_at m h)
+        ∙ ap (λ b. fails_or b r (runs S r (seat_at m h).live q) m) fault
 
     -- it ran
-    pub turn_runs : (new : Kept) (servers' : List X) (tables' : List ConfTable) (k' : Seat) (cast : Cast)
-        (ls ls' : List Line) (t : Slot) (t_is : t.replica ≡ r) → IsOver c.limits.n k → IsOver c.limits.n k' →
+    pub turn_runs : (new : Kept) (k' : Seat) (cast : Cast) (ls ls' : List Line) → IsOver c.limits.n k →
+        IsOver c.limits.n k' →
         PassedAt state c.limits q (slice_get servers r) (slice_get tables r) (slice_get servers' r)
         (slice_get tables' r) k k' cast →
-        ChangesAt r servers servers' → ChangesAt r tables tables' →
-        let seats = slice_set c.seats r (Some k') in
-        let mid : Kept = record c { seats = seats } in
-        (v : Voted r cast mid new ls ls') → (faults : Faults) →
-        faults t.round t.replica ≡ false → (m : Moment) → IsState state c servers tables m.state →
+        let mid : Kept = record c { seats = slice_set c.seats r (Some k') } in
+        (v : Voted r cast mid new ls ls') → faults t.round t.replica ≡ false →
         IsState state new servers' tables' (slot_turn S faults m t).state
         × ((slot_turn S faults m t).lines ≡ m.lines ++ vote_lines r cast mid new ls ls' v)
-    turn_runs new servers' tables' k' cast ls ls' t t_is over over' ans sv tb v faults sound m h =
-        let seats = slice_set c.seats r (Some k') in
-        let mid : Kept = record c { seats = seats } in
+    turn_runs new k' cast ls ls' over over' ans v sound =
+        let mid : Kept = record c { seats = slice_set c.seats r (Some k') } in
         let live = seat_at m h in
-        let l = live.live in
-        let l' = checked S (ran S q l) in
-        let out = ans.step l.array live.stands in
-        let array : l'.array ≡ (answer l.array c.limits q.time q.bytes).array =
-        checked_array S (ran S q l) ∙ is_service.next l.array q in
-        let stands' : StandsAt state c.limits (slice_get servers' r) (slice_get tables' r) l'.array =
-        subst (λ a. StandsAt state c.limits (slice_get servers' r) (slice_get tables' r) a) (sym array) out.0 in
-        let keeps : IsKeptBy k' l' = subst (λ (j : Seat). IsKeptBy j l') (sym out.1)
-        (is_service.keeps l k q live.keeps over live.stands.stands.valid) in
-        let lies : l'.lies ≡ honest = checked_lies S (ran S q l) ∙ live.lies in
-        let here : IsLive state c.limits k' (slice_get servers' r) (slice_get tables' r) (Live l') = record {
-          live = l';
-          is_live = refl;
-          stands = stands';
-          keeps = keeps;
-          lies = lies;
-          harmed = checked_harmed S (ran S q l) ∙ live.harmed;
-        } in
-        let n = becomes r (Live l') m in
-        let h' : IsState state mid servers' tables' n.state =
-        state_put state c seats servers servers' tables tables' m.state r (Some k') (Live l') h within
-        (changes_set c.seats r (Some k')) (slice_get-set_same c.seats r (Some k') (Some k) is_seat) sv tb here in
-        let place : l'.place ≡ cast.place = keeps.place ∙ sym out.2.place in
-        let said : or_else (lookup l'.place l'.lies.words) (S.word l.array q) ≡ cast.word =
-        ap (λ (y : Lies). or_else (lookup l'.place y.words) (S.word l.array q)) lies
-        ∙ is_service.word l.array q ∙ sym out.2.word in
-        let is : slot_turn S faults m t ≡ casts_root_of S r l' (casts_word S r cast.place cast.word n) =
-        ap (λ j. quiet_turn S (faults t.round t.replica) j (turn S m.state j) m) t_is
-        ∙ ap (λ x. quiet_turn S (faults t.round t.replica) r x m) (next_at m h)
-        ∙ ap (λ b. fails_or b r (runs S r l q) m) sound
-        ∙ ap (λ w. casts_root_of S r l' (casts_word S r l'.place w n)) said
-        ∙ ap (λ p. casts_root_of S r l' (casts_word S r p cast.word n)) place in
-        let wide : r < length mid.seats = (let e = length-set c.seats r (Some k') in omega arith) in
-        let one = state_cast state S mid v.mid servers' tables' r cast.place cast.word ls v.between is_service.f wide
-        v.replied.same v.replied.cases n h' in
-        let wide' : r < length v.mid.seats = (let e = ap length v.replied.same.seats in omega arith) in
-        let is_service' : IsService S v.mid.limits = subst (IsService S) (sym v.replied.same.limits) is_service in
-        let root' : IsRootWord v.mid.limits k' cast.root =
-        subst (λ l. IsRootWord l k' cast.root) (sym v.replied.same.limits) out.2.root in
-        let size : length k'.tree ≡ v.mid.limits.n =
-        over'.digests ∙ ap (λ (l : Limits). l.n) (sym v.replied.same.limits) in
-        let two = state_rooted state S v.mid new servers' tables' r cast.place cast.root v.between ls' l' k' is_service' wide'
-        keeps lies size out.2.place root' v.rooted (casts_word S r cast.place cast.word n) one.0 in
-        subst (λ (x : Moment). IsState state new servers' tables' x.state × (x.lines ≡ m.lines ++ vote_lines r cast mid new ls ls' v)) (sym is) (
-          two.0,
-          two.1 ∙ ap (λ xs. xs ++ rooted_lines r cast.place cast.root v.mid new v.between ls' v.rooted) one.1
-              ∙ append_assoc m.lines (cast_lines v.replied.cases)
-              (rooted_lines r cast.place cast.root v.mid new v.between ls' v.rooted),
-        )
+        subst (λ (x : Moment). IsState state new servers' tables' x.state
+        × (x.lines ≡ m.lines ++ vote_lines r cast mid new ls ls' v)) (sym (slot_is false sound))
+        (state_runs state S c is_service servers servers' tables tables' r (Some k) within is_seat sv tb m h k k'
+        live.live q new cast ls ls' over over' ans live.stands live.keeps v)
 
     -- its server failed
-    pub turn_fails : (servers' : List X) (tables' : List ConfTable) (t : Slot) (t_is : t.replica ≡ r) →
-        ChangesAt r servers servers' → ChangesAt r tables tables' → (faults : Faults) →
-        faults t.round t.replica ≡ true → (m : Moment) → IsState state c servers tables m.state →
+    pub turn_fails : faults t.round t.replica ≡ true →
         IsState state (record c { seats = slice_set c.seats r None }) servers' tables' (slot_turn S faults m t).state
         × ((slot_turn S faults m t).lines ≡ m.lines ++ lines.Down r ∷ [])
-    turn_fails servers' tables' t t_is sv tb faults struck m h =
-        let l = (seat_at m h).live in
-        let is : slot_turn S faults m t ≡ fails r m =
-        ap (λ j. quiet_turn S (faults t.round t.replica) j (turn S m.state j) m) t_is
-        ∙ ap (λ x. quiet_turn S (faults t.round t.replica) r x m) (next_at m h)
-        ∙ ap (λ b. fails_or b r (runs S r l q) m) struck in
-        let h' = state_put state c (slice_set c.seats r None) servers servers' tables tables' m.state r None Down h within
-        (changes_set c.seats r None) (slice_get-set_same c.seats r None (Some k) is_seat) sv tb refl in
+    turn_fails struck =
         subst (λ (x : Moment). IsState state (record c { seats = slice_set c.seats r None }) servers' tables' x.state
-        × (x.lines ≡ m.lines ++ lines.Down r ∷ [])) (sym is) (h', refl)
+        × (x.lines ≡ m.lines ++ lines.Down r ∷ [])) (sym (slot_is true struck))
+        (state_fails state S c is_service servers servers' tables tables' r (Some k) within is_seat sv tb m h)
 
+    -- another request in place of its own
+    rogue_is : (rq : Request) (b : Bool) → faults t.round r ≡ b →
+        rogue_turn S (faults t.round r) r rq (turn S m.state r) m
+        ≡ fails_or b r (runs S r (harm (seat_at m h).live) rq) m
+    rogue_is rq b fault = ap (λ x. rogue_turn S (faults t.round r) r rq x m) (next_at m h)
+        ∙ ap (λ b. fails_or b r (runs S r (harm (seat_at m h).live) rq) m) fault
+
+    pub rogue_runs : (rq : Request) (new : Kept) (k' : Seat) (cast : Cast) (ls ls' : List Line) → IsOver c.limits.n k →
+        IsOver c.limits.n k' →
+        PassedAt state c.limits rq (slice_get servers r) (slice_get tables r) (slice_get servers' r)
+        (slice_get tables' r) (seat_harmed k) k' cast →
+        let mid : Kept = record c { seats = slice_set c.seats r (Some k') } in
+        (v : Voted r cast mid new ls ls') → faults t.round r ≡ false →
+        let n = rogue_turn S (faults t.round r) r rq (turn S m.state r) m in
+        IsState state new servers' tables' n.state × (n.lines ≡ m.lines ++ vote_lines r cast mid new ls ls' v)
+    rogue_runs rq new k' cast ls ls' over over' ans v sound =
+        let mid : Kept = record c { seats = slice_set c.seats r (Some k') } in
+        let live = seat_at m h in
+        subst (λ (x : Moment). IsState state new servers' tables' x.state
+        × (x.lines ≡ m.lines ++ vote_lines r cast mid new ls ls' v)) (sym (rogue_is rq false sound))
+        (state_runs state S c is_service servers servers' tables tables' r (Some k) within is_seat sv tb m h
+        (seat_harmed k) k' (harm live.live) rq new cast ls ls' (over_harmed c.limits.n k over) over' ans live.stands
+        (keeps_harmed live.live k live.keeps) v)
+
+    pub rogue_fails : (rq : Request) → faults t.round r ≡ true →
+        let n = rogue_turn S (faults t.round r) r rq (turn S m.state r) m in
+        IsState state (record c { seats = slice_set c.seats r None }) servers' tables' n.state
+        × (n.lines ≡ m.lines ++ lines.Down r ∷ [])
+    rogue_fails rq struck =
+        subst (λ (x : Moment). IsState state (record c { seats = slice_set c.seats r None }) servers' tables' x.state
+        × (x.lines ≡ m.lines ++ lines.Down r ∷ [])) (sym (rogue_is rq true struck))
+        (state_fails state S c is_service servers servers' tables tables' r (Some k) within is_seat sv tb m h)
+
+    -- no request in its place
+    skip_is : (b : Bool) → faults t.round r ≡ b →
+        skip_turn S (faults t.round r) r (turn S m.state r) m ≡ fails_or b r (skips S r (seat_at m h).live) m
+    skip_is b fault = ap (λ x. skip_turn S (faults t.round r) r x m) (next_at m h)
+        ∙ ap (λ b. fails_or b r (skips S r (seat_at m h).live) m) fault
+
+    pub skip_skips : (new : Kept) (k' : Seat) (o : Option (List ℕ)) (ls ls' : List Line) → IsOver c.limits.n k →
+        IsOver c.limits.n k' →
+        SkippedAt state c.limits (slice_get servers r) (slice_get tables r) (slice_get servers' r) (slice_get tables' r)
+        k k' o →
+        let mid : Kept = record c { seats = slice_set c.seats r (Some k') } in
+        (v : RootedIf r k'.place o mid new ls ls') → faults t.round r ≡ false →
+        let n = skip_turn S (faults t.round r) r (turn S m.state r) m in
+        IsState state new servers' tables' n.state
+        × (n.lines ≡ m.lines ++ rooted_lines r k'.place o mid new ls ls' v)
+    skip_skips new k' o ls ls' over over' ans v sound =
+        let mid : Kept = record c { seats = slice_set c.seats r (Some k') } in
+        let live = seat_at m h in
+        subst (λ (x : Moment). IsState state new servers' tables' x.state
+        × (x.lines ≡ m.lines ++ rooted_lines r k'.place o mid new ls ls' v)) (sym (skip_is false sound))
+        (state_skips state S c is_service servers servers' tables tables' r (Some k) within is_seat sv tb m h k k'
+        live.live new o ls ls' over over' ans live.stands live.keeps v)
+
+    pub skip_fails : faults t.round r ≡ true →
+        let n = skip_turn S (faults t.round r) r (turn S m.state r) m in
+        IsState state (record c { seats = slice_set c.seats r None }) servers' tables' n.state
+        × (n.lines ≡ m.lines ++ lines.Down r ∷ [])
+    skip_fails struck =
+        subst (λ (x : Moment). IsState state (record c { seats = slice_set c.seats r None }) servers' tables' x.state
+        × (x.lines ≡ m.lines ++ lines.Down r ∷ [])) (sym (skip_is true struck))
+        (state_fails state S c is_service servers servers' tables tables' r (Some k) within is_seat sv tb m h)
+
+module _ {X : Type 0} (state : X → Server) where
   -- why a replica has no turn
   pub idle_is : (S : Service) (c : Kept) → S.k ≡ c.limits.k → (servers : List X) (tables : List ConfTable) (r : ℕ)
       (d : IdleCause) → r < length c.seats → next_in c (slice_index_or c.seats r None) ≡ Err d → (m : Moment) →

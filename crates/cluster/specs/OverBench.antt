@@ -1,7 +1,7 @@
 -- How a cluster and its bench stand for a state of the model. The cluster keeps no array: the array of a replica is
 -- what its server and table stand for, whichever it is. Where the state has a list of pairs, the cluster has a map,
 -- and only look-ups are compared.
-use Rattle.std.specs.Prelude.{◌≡◌, ℕ, ◌<◌, List, length, slice_get, slice_index_or, Option, Some, None, option_map, cond, Bool, false, ◌==◌, ◌||◌}
+use Rattle.std.specs.Prelude.{◌≡◌, ℕ, ◌<◌, List, length, slice_get, slice_index_or, Option, Some, None, option_map, cond, Bool, ◌==◌, ◌||◌}
 use Rattle.nfs2_types.specs.declared.Limits.{Limits}
 use Rattle.nfs2_types.specs.declared.Word.{Word}
 use Rattle.nfs2_types.specs.declared.Word.TheVariants.{Reply}
@@ -12,7 +12,6 @@ use Rattle.cluster_model.specs.declared.Request.{Request}
 use Rattle.cluster_model.specs.Tree.{below}
 use Rattle.cluster_model.specs.State.{Running, Condition, Live, Down, State, lookup, has}
 use Rattle.cluster_model.specs.Moments.{replica}
-use Rattle.cluster_model.specs.Turns.{honest}
 use Rattle.replica.specs.declared.Replica.{Replica}
 use Rattle.replica.specs.Replicas.{IsOver}
 use Rattle.reply_vote.specs.Ballots.{Ballot, word_at}
@@ -33,22 +32,22 @@ pub record Kept : Type 0 where
   pub events : ℕ
 
 -- what a replica keeps is what a running one has: its place, the digests that it believes, the objects told since its
--- newest checkpoint, and the checkpoints that it holds
+-- newest checkpoint, the checkpoints that it holds, its lies, and whether it was harmed
 pub record IsKeptBy (k : Replica) (l : Running) : Type 0 where
   pub place : l.place ≡ k.place
   pub believed : l.believed ≡ k.tree
   pub told : l.told ≡ k.store.told
   pub holds : l.holds ≡ k.store.holds
+  pub lies : l.lies ≡ k.lies
+  pub harmed : l.harmed ≡ k.harmed
 
--- a replica is live with what it keeps, unharmed and honest, and its position stands for its array
+-- a replica is live with what it keeps, and its position stands for its array
 pub record IsLive {X : Type 0} (state : X → Server) (limits : Limits) (k : Replica) (s : Option X)
     (t : Option ConfTable) (c : Condition) : Type 0 where
   pub live : Running
   pub is_live : c ≡ Live live
   pub stands : StandsAt state limits s t live.array
   pub keeps : IsKeptBy k live
-  pub lies : live.lies ≡ honest
-  pub harmed : live.harmed ≡ false
 
 -- what stands at a position is in this condition: live, or down
 abbrev pub IsSeat : {X : Type 0} → (X → Server) → Limits → Option Replica → Option X → Option ConfTable →

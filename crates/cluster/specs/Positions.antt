@@ -12,7 +12,7 @@ use Rattle.dispatch.specs.Answer.{answer}
 use Rattle.cluster_model.specs.declared.Request.{Request}
 use Rattle.replica.specs.declared.Replica.{Replica}
 use Rattle.replica.specs.declared.Cast.{Cast}
-use Rattle.replica.specs.Replicas.{passed}
+use Rattle.replica.specs.Replicas.{passed, skipped, checked, IsRootWord}
 use Rattle.replica.specs.Passed.{IsCast}
 
 -- server and table at a position stand for an array
@@ -48,6 +48,13 @@ pub record PassedAt {X : Type 0} (state : X → Server) (limits : Limits) (q : R
   pub step : (A : List Entry) → StandsAt state limits s t A →
       let a = answer A limits q.time q.bytes in
       StandsAt state limits s' t' a.array × (k' ≡ passed limits A a k) × IsCast limits a k' cast
+
+-- the replica at a position passed a place with no request, and its position stands for the array that it stood for
+pub record SkippedAt {X : Type 0} (state : X → Server) (limits : Limits) (s : Option X) (t : Option ConfTable)
+    (s' : Option X) (t' : Option ConfTable) (k k' : Replica) (root : Option (List ℕ)) : Type 0 where
+  pub step : (A : List Entry) → StandsAt state limits s t A →
+      StandsAt state limits s' t' A × (k' ≡ checked limits A (skipped k))
+  pub root_word : IsRootWord limits k' root
 
 -- each server has the limits that it had, its count has not fallen, there are as many, and from position n on none
 -- changed

@@ -7,7 +7,7 @@ use Rattle.server_trait.specs.declared.ConfTable.{ConfTable}
 use Rattle.server_trait.specs.declared.FaultPoint.{FaultPoint}
 use Rattle.server_trait.specs.declared.ServerLimits.{ServerLimits}
 use Rattle.log_format.specs.declared.Event.{Event}
-use Rattle.log_format.specs.declared.Event.TheVariants.{Request as Ask, Run, RunAll, End}
+use Rattle.log_format.specs.declared.Event.TheVariants.{Request as Ask, Run, RunAll, Rogue, Skip, LieReply, LieRoot, LieItem, Wipe, End}
 use Rattle.log_format.specs.declared.Line.{Line}
 use Rattle.cluster_model.specs.declared.Request.{Request}
 use Rattle.cluster_model.specs.Moments.{Moment}
@@ -23,6 +23,12 @@ abbrev pub is_built : Event → Bool
 is_built (Ask client time bytes) = true
 is_built (Run r) = true
 is_built RunAll = true
+is_built (Rogue r time bytes) = true
+is_built (Skip r) = true
+is_built (LieReply r place word) = true
+is_built (LieRoot r place root) = true
+is_built (LieItem r level number text) = true
+is_built (Wipe r) = true
 is_built End = true
 is_built event = false
 
@@ -32,10 +38,16 @@ asked_by (Ask client time bytes) = record { time = time; bytes = bytes } ∷ []
 asked_by event = []
 
 -- A record that can be stepped behind these requests: a request comes at a time, and a word has its number; a replica
--- that is to run is one of the 3f + 1.
+-- that is to run, or is harmed, is one of the 3f + 1.
 abbrev pub CanStep : Limits → List Request → Event → Type 0
 CanStep limits requests (Ask client time bytes) = (length requests + 1 < 2 ^ 32) × (is_time time ≡ true)
 CanStep limits requests (Run r) = r < 3 * limits.f + 1
+CanStep limits requests (Rogue r time bytes) = (r < 3 * limits.f + 1) × (is_time time ≡ true)
+CanStep limits requests (Skip r) = r < 3 * limits.f + 1
+CanStep limits requests (LieReply r place word) = r < 3 * limits.f + 1
+CanStep limits requests (LieRoot r place root) = r < 3 * limits.f + 1
+CanStep limits requests (LieItem r level number text) = r < 3 * limits.f + 1
+CanStep limits requests (Wipe r) = r < 3 * limits.f + 1
 CanStep limits requests event = IsTrue (is_built event)
 
 -- each server failed at least as often as these moments, which follow m, strike it, and not where they do not

@@ -8,9 +8,10 @@ use Rattle.server_trait.specs.declared.ServerLimits.{ServerLimits}
 use Rattle.log_format.specs.declared.Line.{Line}
 use Rattle.log_format.specs.declared.IdleCause.{IdleCause}
 use Rattle.log_format.specs.declared.IdleCause.TheVariants.{NotLive, AtEnd, Behind}
+use Rattle.cluster_model.specs.declared.Request.{Request}
 use Rattle.cluster_model.specs.Tree.{below}
 use Rattle.cluster_model.specs.Moments.{Moment, Faults}
-use Rattle.cluster_model.specs.Turns.{Slot, slots, slot_turn, turn, Not, moments, last}
+use Rattle.cluster_model.specs.Turns.{Slot, slots, slot_turn, rogue_turn, skip_turn, turn, Not, moments, last}
 use Rattle.cluster_model.specs.Run.{failed_of, strikes_in}
 use Rattle.cluster_model.specs.Struck.{IsLater}
 use Rattle.service_laws.specs.Served.{service}
@@ -28,10 +29,11 @@ AreStruckBy {X} state ls servers servers' = (s : ℕ) (x y : X) → slice_get se
     slice_get servers' s ≡ Some y → IsLater X ServerLimits (λ z. (state z).faults) (λ z. (state z).limits)
     (strikes_in s (below (length servers)) (flat_map failed_of ls)) x y
 
--- From each state that cluster and bench stood for, the model's turn leads to one that they stand for, and prints
--- these lines, where the server fails there as it did.
-pub record Turned {X : Type 0} (state : X → Server) (t : Slot) (old new : Kept) (servers servers' : List X)
-    (tables tables' : List ConfTable) (met met' : List FaultPoint) (ls ls' : List Line) : Type 0 where
+-- From each state that cluster and bench stood for, what the model does leads to one that they stand for, and prints these
+-- lines, where the server fails at this turn as it did.
+pub record TurnedBy {X : Type 0} (state : X → Server) (does : Faults → Moment → Moment) (t : Slot) (old new : Kept)
+    (servers servers' : List X) (tables tables' : List ConfTable) (met met' : List FaultPoint) (ls ls' : List Line)
+    : Type 0 where
   pub fault : Bool
   pub more : List Line
   pub met_are : met' ≡ met ++ points (suc old.events) t fault
@@ -42,8 +44,26 @@ pub record Turned {X : Type 0} (state : X → Server) (t : Slot) (old new : Kept
   pub struck : AreStruckBy state more servers servers'
   pub moves : (faults : Faults) → faults t.round t.replica ≡ fault → (m : Moment) →
       IsState state old servers tables m.state →
-      let n = slot_turn (service old.limits) faults m t in
-      IsState state new servers' tables' n.state × (n.lines ≡ m.lines ++ more)
+      IsState state new servers' tables' (does faults m).state × ((does faults m).lines ≡ m.lines ++ more)
+
+-- a turn of a round
+abbrev pub Turned : {X : Type 0} → (X → Server) → Slot → Kept → Kept → List X → List X → List ConfTable →
+    List ConfTable → List FaultPoint → List FaultPoint → List Line → List Line → Type 0
+Turned state t old new servers servers' tables tables' met met' ls ls' =
+    TurnedBy state (λ faults m. slot_turn (service old.limits) faults m t) t old new servers servers' tables tables'
+    met met' ls ls'
+
+-- a turn of replica r in which it runs another request, and one in which it runs none
+abbrev pub rogue_by : Kept → ℕ → Request → Faults → Moment → Moment
+rogue_by c r q faults m =
+    rogue_turn (service c.limits) (faults 0 r) r q (turn (service c.limits) m.state r) m
+
+abbrev pub skip_by : Kept → ℕ → Faults → Moment → Moment
+skip_by c r faults m = skip_turn (service c.limits) (faults 0 r) r (turn (service c.limits) m.state r) m
+
+-- the first stage of a record, for a replica
+abbrev pub first_slot : ℕ → Slot
+first_slot r = record { round = 0; replica = r }
 
 -- what stays over turns
 pub record Stays (old new : Kept) : Type 0 where

@@ -5,11 +5,14 @@ use Rattle.server_trait.specs.Tree.{Server}
 use Rattle.server_trait.specs.declared.ConfTable.{ConfTable}
 use Rattle.server_trait.specs.declared.FaultPoint.{FaultPoint}
 use Rattle.log_format.specs.declared.Event.{Event}
+use Rattle.log_format.specs.declared.Event.TheVariants.{LieReply, LieRoot, LieItem}
 use Rattle.log_format.specs.declared.Line.{Line}
 use Rattle.log_format.specs.declared.Line.TheVariants.{At, AtDown}
 use Rattle.cluster_model.specs.Moments.{Moment}
 use Rattle.cluster_model.specs.Run.{AreMet}
 use Rattle.replica.specs.declared.Replica.{Replica}
+use Rattle.replica.specs.declared.Lie.{Lie}
+use Rattle.replica.specs.declared.Lie.TheVariants.{OfWord, OfRoot, OfItem}
 use Rattle.cluster.specs.OverBench.{Kept, IsState}
 use Rattle.cluster.specs.Steps.{ArePointsOf, Follows, asked_by}
 
@@ -33,3 +36,9 @@ end_line r (Some k) = At r k.place
 abbrev pub end_lines : ℕ → List (Option Replica) → List Line
 end_lines r [] = []
 end_lines r (x ∷ xs) = end_line r x ∷ end_lines (suc r) xs
+
+-- the record that tells a replica to lie so
+abbrev pub lie_event : ℕ → Lie → Event
+lie_event r (OfWord place word) = LieReply r place word
+lie_event r (OfRoot place root) = LieRoot r place root
+lie_event r (OfItem level number text) = LieItem r level number text

@@ -9,6 +9,7 @@ ghost use Rattle.cluster.specs.Steps.{is_built as is_step_built, CanStep, Starts
 ghost use Rattle.cluster.specs.Kept.{kept};
 
 mod begins;
+mod harm;
 mod state;
 mod steps;
 mod turns;
@@ -31,6 +32,8 @@ pub fn is_built(event: &Event) -> bool
 {
     match event {
         Event::Request { .. } | Event::Run { .. } | Event::RunAll | Event::End => true,
+        Event::Rogue { .. } | Event::Skip { .. } | Event::Wipe { .. } => true,
+        Event::LieReply { .. } | Event::LieRoot { .. } | Event::LieItem { .. } => true,
         _ => false,
     }
 }

@@ -1,6 +1,7 @@
 //! Lists that grow.
 
 ghost use Rattle.std.specs.Prelude.{◌≡◌, ◌++◌, ◌∷◌, [], OnOk, OnErr, IfOk};
+ghost use Rattle.log_format.specs.declared.Line.TheVariants.{Down};
 ghost use Rattle.cluster_model.specs.Moments.{decision_line as line_of_decision};
 
 use log_format::Line;
@@ -25,6 +26,27 @@ pub fn push_point(points: &mut Vec<FaultPoint>, point: FaultPoint) -> Result<(),
         Ok(()) => Ok(()),
         Err(_) => Err(NoMemory),
     }
+}
+
+/// Puts the line and the fault point of a replica behind the others whose server failed in the first stage of an event.
+pub fn push_fall(
+    lines: &mut Vec<Line>,
+    points: &mut Vec<FaultPoint>,
+    event: u64,
+    r: u32,
+) -> Result<(), NoMemory>
+    ensures lines { OnOk result (lines.new.items ≡ lines.old.items ++ Down r ∷ []) }
+    ensures points { OnOk result (points.new.items
+        ≡ points.old.items ++ record { event = event; stage = 0; replica = r } ∷ []) }
+{
+    push_line(lines, Line::Down { r })?;
+    let point = FaultPoint {
+        event,
+        stage: 0,
+        replica: r,
+    };
+    push_point(points, point)?;
+    Ok(())
 }
 
 /// Puts fault points behind the others: all of them, or none.

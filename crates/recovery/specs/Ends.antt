@@ -1,24 +1,12 @@
 -- How a rebuilding ends.
-use Rattle.std.specs.Prelude.{◌≡◌, ◌≤◌, ℕ, List, Result, Err}
+use Rattle.std.specs.Prelude.{◌≡◌, ◌≤◌, ℕ, Result, Err}
 use Rattle.nfs2_types.specs.Counts.{Rose}
 use Rattle.server_trait.specs.Tree.{Server}
 use Rattle.server_trait.specs.declared.bench.WrapErr.{WrapErr}
 use Rattle.server_trait.specs.declared.bench.WrapErr.TheVariants.{Down as ServerDown, NoMemory as ServerNoMemory}
-use Rattle.abs_model.specs.declared.Entry.{Entry}
-use Rattle.cow_checkpoint.specs.Store as stores
-use Rattle.replica.specs.declared.running.Replica.{Replica}
-use Rattle.replica.specs.Replicas.{digests_of}
 use Rattle.recovery.specs.declared.failure.FinishErr.{FinishErr}
 use Rattle.recovery.specs.declared.failure.FinishErr.TheVariants.{Invalid, Down, NoMemory}
 use Rattle.recovery.specs.Rebuilt.{Rebuilt}
-
--- a live replica at a place over the array A: its digests are the array's, and that place's checkpoint is held
-abbrev pub live_at : ℕ → List Entry → Replica
-live_at place A = record {
-  place = place;
-  tree = digests_of A;
-  store = stores.begun place (digests_of A);
-}
 
 -- the same failure of a wrapped server
 abbrev pub of_wrap : WrapErr → FinishErr

@@ -11,28 +11,17 @@ ghost use Rattle.inverse_fn.specs.Puts.{CanPutObjs};
 ghost use Rattle.partition_tree.specs.Digests.{IsTreeSize, IsRoot};
 ghost use Rattle.state_transfer.specs.Stand.{next_in};
 ghost use Rattle.recovery.specs.Rebuilt.{HasFetched, retargeted};
-ghost use Rattle.replica.specs.Replicas.{digests_of};
-ghost use Rattle.recovery.specs.Ends.{FinishWatched, IfInvalid, live_at};
+ghost use Rattle.replica.specs.Replicas.{digests_of, begun_at};
+ghost use Rattle.recovery.specs.Ends.{FinishWatched, IfInvalid};
 
 use crate::failure::FinishErr;
 use crate::reading::read_tree;
 use crate::rebuild::Rebuild;
-use cow_checkpoint::CheckpointStore;
 use inverse_fn::{PutErr, put_objs};
-use nfs2_types::{Limits, NoMemory};
-use partition_tree::Tree;
+use nfs2_types::Limits;
 use replica::Replica;
 use server_trait::{ConfTable, Srv, WrapErr};
 use std::alloc::Global;
-
-/// A live replica at a place, whose digests are these, and whose checkpoint it holds.
-fn settle(alloc: Global, place: u32, tree: Tree) -> Result<Replica, NoMemory>
-    ensures { IfOk result (λ k. (A : List Entry) → tree ≡ digests_of A → k ≡ live_at place A) }
-{
-    let first = tree.copy(alloc)?;
-    let store = CheckpointStore::new(alloc, place, first)?;
-    Ok(Replica { place, tree, store })
-}
 
 /// A live replica at a place, over the array that server and table stand for.
 fn live_over(
@@ -44,12 +33,12 @@ fn live_over(
     requires stands { (A : List Entry) × StandValid (state server.old).tree table.now A }
     requires size { IsTreeSize (length table.now.rows.items) }
     ensures live { IfOk result (λ k. (A : List Entry) → StandValid (state server.old).tree table.now A →
-        k ≡ live_at place A) }
+        k ≡ begun_at place (digests_of A)) }
     ensures same { OnOk result ((state server.new).tree ≡ (state server.old).tree) }
     ensures watched { Watched (state server.old) (state server.new) result }
 {
     let tree = read_tree(alloc, server, table)?;
-    let replica = settle(alloc, place, tree)?;
+    let replica = Replica::begun_at(alloc, place, tree)?;
     Ok(replica)
 }
 
@@ -72,7 +61,7 @@ impl Rebuild {
             StandsValid limits.now (state server.new).tree table.new (changed self.fetch.changes A)) }
         ensures live { IfOk result (λ k. (A : List Entry) (place : ℕ) →
             StandsValid limits.now (state server.old).tree table.old A → self.target ≡ Some place →
-            k ≡ live_at place (changed self.fetch.changes A)) }
+            k ≡ begun_at place (digests_of (changed self.fetch.changes A))) }
 
         // Whatever digests agree, it has the root that was aimed at.
         ensures root { IfOk result (λ k. (A : List Entry) (got : List (tree.Item × List ℕ)) →

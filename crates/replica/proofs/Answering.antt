@@ -11,6 +11,7 @@ use Rattle.server_trait.specs.declared.ConfTable.{ConfTable}
 use Rattle.conf_map.specs.Stands.{AreWithin, StandValid, StandsValid}
 use Rattle.dispatch.specs.Answer.{answer}
 use Rattle.dispatch.specs.Steps.{Answers}
+use Rattle.cluster_model.specs.State.{lookup, or_else}
 use Rattle.cow_checkpoint.specs.Store.{Store, notices}
 use Rattle.cow_checkpoint.proofs.Texts.{in_turn}
 use Rattle.replica.specs.declared.running.Replica.{Replica}
@@ -36,14 +37,14 @@ module _ (limits : Limits) (within : AreWithin limits) (time : Time) (bytes : Li
     (λ (s : Store) B i t. t ≡ notices B i s) limits A (answer A limits time bytes) w mid table' old.store store)
     (place : ℕ) (next : place ≡ old.place + 1) where
   abbrev moved : Replica
-  moved = record { place = place; tree = old.tree; store = store }
+  moved = record { place = place; tree = old.tree; store = store; lies = old.lies; harmed = old.harmed }
 
   moved_is : (A : List Entry) → StandsValid limits tree table A →
       moved ≡ told_of A (answer A limits time bytes).told old
   moved_is A sv = (
       let e : old.place + 1 ≡ suc old.place = omega arith in
       let s = in_turn A (answer A limits time bytes).told old.store store (h A sv).notices in
-      λ i. record { place = (next ∙ e) i; tree = old.tree; store = s i })
+      λ i. record { place = (next ∙ e) i; tree = old.tree; store = s i; lies = old.lies; harmed = old.harmed })
 
   after : (A : List Entry) → StandsValid limits tree table A →
       StandsValid limits mid table' (answer A limits time bytes).array
@@ -76,7 +77,8 @@ module _ (limits : Limits) (within : AreWithin limits) (time : Time) (bytes : Li
   -- with what was found at the checkpoint
   pub passed_is : (tree' : Option Tree) → tree' ≡ mid → (new : Replica) (cast : Cast) →
       ((A : List Entry) → StandValid mid table' A → new ≡ checked limits A moved) → cast.place ≡ new.place →
-      cast.word ≡ w → IsRootWord limits new cast.root → Passed limits time bytes tree tree' table table' old new cast
+      cast.word ≡ or_else (lookup new.place new.lies.words) w → IsRootWord limits new cast.root →
+      Passed limits time bytes tree tree' table table' old new cast
   passed_is tree' same new cast taken at word root = record {
     step = λ A sv. (
         let a = answer A limits time bytes in
@@ -84,6 +86,10 @@ module _ (limits : Limits) (within : AreWithin limits) (time : Time) (bytes : Li
           subst (λ t. StandsValid limits t table' a.array) (sym same) st,
           taken a.array (stand_valid limits mid table' a.array within st)
               ∙ ap (checked limits a.array) (moved_is A sv),
-          record { place = at; word = word ∙ (h A sv).word_is; root = root },
+          record {
+            place = at;
+            word = word ∙ ap (or_else (lookup new.place new.lies.words)) (h A sv).word_is;
+            root = root;
+          },
         ));
   }

@@ -1,5 +1,5 @@
 -- Replicas over as many entries as the array.
-use Rattle.std.proofs.Common.{◌≡◌, ℕ, zero, suc, ◌<◌, ◌≤◌, Bool, true, false, cond, List, [], ◌∷◌, ◌++◌, length, get_or, refl, sym, ◌∙◌, ap, subst, arith}
+use Rattle.std.proofs.Common.{◌≡◌, ℕ, zero, suc, ◌+◌, ◌<◌, ◌≤◌, Bool, true, false, cond, List, [], ◌∷◌, ◌++◌, length, get_or, refl, sym, ◌∙◌, ap, subst, arith}
 use Rattle.std.specs.Prelude.{◌==◌, ◌||◌}
 use Rattle.std.specs.List.{All}
 use Rattle.std.proofs.lemmas.Bool.{eqb-true, eq-eqb}
@@ -11,14 +11,17 @@ use Rattle.abs_model.specs.Array.{empty_array}
 use Rattle.cluster_model.specs.Right.{is_told}
 use Rattle.cow_checkpoint.specs.Store.{Store, notices, all_noticed, takes}
 use Rattle.replica.specs.declared.running.Replica.{Replica}
-use Rattle.replica.specs.Replicas.{IsOver, begun, refreshed, told_of, takes_checkpoint, checked, is_due}
+use Rattle.replica.specs.Replicas.{IsOver, begun_at, begun, refreshed, told_of, takes_checkpoint, checked, is_due, harm, skipped, digests_of}
 use Rattle.replica.proofs.EmptyArray.{length-empty, length-digests_from}
 use Rattle.replica.proofs.Refreshed.{length-refreshed, refreshed_same}
 
-pub over_begun : (n : ℕ) → 1 ≤ n → IsOver n (begun n)
-over_begun n some =
-    let size = length-digests_from 0 (empty_array n) ∙ length-empty n some in
+pub over_begun_at : (n place : ℕ) (ds : List (List ℕ)) → length ds ≡ n → IsOver n (begun_at place ds)
+over_begun_at n place ds size =
     record { digests = size; size = size; told = All-nil (λ i. i < n); taken = omega arith }
+
+pub over_begun : (n : ℕ) → 1 ≤ n → IsOver n (begun n)
+over_begun n some = over_begun_at n 0 (digests_of (empty_array n))
+    (length-digests_from 0 (empty_array n) ∙ length-empty n some)
 
 -- what is told at a place of a list is told
 told_at : (is : List ℕ) (k d : ℕ) → k < length is → is_told (get_or is k d) is ≡ true
@@ -86,12 +89,31 @@ touched_low n told indexes same low k d within =
 
 pub taken_is : (A : List Entry) (old new : Replica) (indexes : List ℕ) → new.place ≡ old.place →
     ((i : ℕ) → is_told i indexes ≡ is_told i old.store.told) → new.tree ≡ refreshed A indexes old.tree →
-    new.store ≡ takes old.place new.tree old.store → new ≡ takes_checkpoint A old
-taken_is A old new indexes place same tree store =
+    new.store ≡ takes old.place new.tree old.store → new.lies ≡ old.lies → new.harmed ≡ old.harmed →
+    new ≡ takes_checkpoint A old
+taken_is A old new indexes place same tree store lies harmed =
     let all : new.tree ≡ refreshed A old.store.told old.tree =
     tree ∙ refreshed_same A indexes old.store.told old.tree same in
     λ i. record {
       place = place i;
       tree = all i;
       store = (store ∙ ap (λ ds. takes old.place ds old.store) all) i;
+      lies = lies i;
+      harmed = harmed i;
     }
+
+pub over_harmed : (n : ℕ) (k : Replica) → IsOver n k → IsOver n (harm k)
+over_harmed n k h = record { digests = h.digests; size = h.size; told = h.told; taken = h.taken }
+
+-- a place that is passed with no request
+abbrev passing : ℕ → Replica → Replica
+passing place k = record k { place = place; harmed = true }
+
+pub over_passing : (n place : ℕ) (k : Replica) → k.place ≤ place → IsOver n k → IsOver n (passing place k)
+over_passing n place k le h =
+    record { digests = h.digests; size = h.size; told = h.told; taken = (let t = h.taken in omega arith) }
+
+pub passing_is : (k : Replica) (place : ℕ) → place ≡ k.place + 1 → passing place k ≡ skipped k
+passing_is k place next = (
+    let e : place ≡ suc k.place = omega arith in
+    λ i. record { place = e i; tree = k.tree; store = k.store; lies = k.lies; harmed = true })

@@ -9,6 +9,8 @@ use Rattle.abs_text.specs.Text.{entry_text}
 use Rattle.partition_tree.specs.Digests.{IsRoot}
 use Rattle.cow_checkpoint.specs.Store as stores
 use Rattle.dispatch.specs.Answer.{Answer}
+use Rattle.cluster_model.specs.State.{lookup, or_else}
+use Rattle.cluster_model.specs.Turns.{honest}
 use Rattle.replica.specs.declared.running.Replica.{Replica}
 
 -- the digests of the texts of these entries, the first of them at this index
@@ -20,13 +22,27 @@ digests_from i (e ∷ es) = sha256 (entry_text i e) ∷ digests_from (suc i) es
 abbrev pub digests_of : List Entry → List (List ℕ)
 digests_of A = digests_from 0 A
 
--- at place 0 over the array of a beginning, whose checkpoint is held
-abbrev pub begun : ℕ → Replica
-begun n = record {
-  place = 0;
-  tree = digests_of (empty_array n);
-  store = stores.begun 0 (digests_of (empty_array n));
+-- at a place with these digests, whose checkpoint is held; honest, and not harmed
+abbrev pub begun_at : ℕ → List (List ℕ) → Replica
+begun_at place digests = record {
+  place = place;
+  tree = digests;
+  store = stores.begun place digests;
+  lies = honest;
+  harmed = false;
 }
+
+-- at place 0 over the array of a beginning
+abbrev pub begun : ℕ → Replica
+begun n = begun_at 0 (digests_of (empty_array n))
+
+-- it may be wrong from now on
+abbrev pub harm : Replica → Replica
+harm k = record k { harmed = true }
+
+-- it passed a place and ran no request, so it may be wrong
+abbrev pub skipped : Replica → Replica
+skipped k = record k { place = suc k.place; harmed = true }
 
 -- the digests, those of the objects told read anew
 abbrev pub refreshed : List Entry → List ℕ → List (List ℕ) → List (List ℕ)
@@ -56,10 +72,12 @@ checked limits A k = if is_due limits k.place then takes_checkpoint A k else k
 abbrev pub passed : Limits → List Entry → Answer → Replica → Replica
 passed limits A a k = checked limits a.array (told_of A a.told k)
 
--- the root word of a replica that stands at its place: the root of its digests where a checkpoint is due, else none
+-- the root word of a replica that stands at its place: where a checkpoint is due its lie about the place, or else the
+-- root of its digests; where none is due there is none
 abbrev pub IsRootWord : Limits → Replica → Option (List ℕ) → Type 0
 IsRootWord limits k None = is_due limits k.place ≡ false
-IsRootWord limits k (Some digest) = (is_due limits k.place ≡ true) × IsRoot k.tree digest
+IsRootWord limits k (Some digest) = (is_due limits k.place ≡ true)
+    × ((root : List ℕ) × IsRoot k.tree root × (digest ≡ or_else (lookup k.place k.lies.roots) root))
 
 -- a replica of a service with n entries: it has so many digests, in its checkpoints too; each object told is one of
 -- them; and its newest checkpoint is of no place behind its own

@@ -8,30 +8,33 @@ ghost use Rattle.conf_map.specs.Stands.{StandValid, StandsValid, AreWithin, HasR
 ghost use Rattle.conf_map.specs.Notice.{Watched};
 ghost use Rattle.partition_tree.specs.Digests.{IsTreeSize};
 ghost use Rattle.cow_checkpoint.specs.Store.{drops};
-ghost use Rattle.replica.specs.Replicas.{IsOver, IsRootWord, begun, takes_checkpoint, checked};
+ghost use Rattle.replica.specs.Replicas.{IsOver, IsRootWord, begun, begun_at, takes_checkpoint, checked};
 ghost use Rattle.replica.specs.Passed.{Passed};
 
 use crate::beginning::empty_tree;
+use crate::lies::Lies;
 use crate::refreshing::refresh;
 use conf_map::fresh;
 use cow_checkpoint::CheckpointStore;
 use dispatch::answer;
-use nfs2_types::{Digest, Limits, Time, Word};
+use nfs2_types::{Digest, Limits, NoMemory, Time, Word};
 use partition_tree::Tree;
 use server_trait::{ConfTable, Srv, WrapErr};
 use std::alloc::Global;
 
-/// A live replica: how many requests it has passed, the digests that it believes of its array, and its checkpoints.
-/// Its array is what its server and table stand for; it keeps none.
+/// A live replica: how many requests it has passed, the digests that it believes of its array, its checkpoints, its lies,
+/// and whether it was harmed. Its array is what its server and table stand for; it keeps none.
 #[derive(Drop)]
 pub struct Replica {
     pub place: u32,
     pub tree: Tree,
     pub store: CheckpointStore,
+    pub lies: Lies,
+    pub harmed: bool,
 }
 
-/// The words that a replica casts for a place, the first place being 1: the reply word, and the root of its digests
-/// where a checkpoint was taken.
+/// The words that a replica casts for a place, the first place being 1: the reply word, and where a checkpoint was taken
+/// the root of its digests; or its lies about them.
 #[derive(Debug, Drop)]
 pub struct Cast {
     pub place: u32,
@@ -40,6 +43,21 @@ pub struct Cast {
 }
 
 impl Replica {
+    /// A replica at a place with these digests, whose checkpoint it holds: honest and not harmed.
+    pub fn begun_at(alloc: Global, place: u32, tree: Tree) -> Result<Replica, NoMemory>
+        ensures { IfOk result (λ k. k ≡ begun_at place tree) }
+    {
+        let first = tree.copy(alloc)?;
+        let store = CheckpointStore::new(alloc, place, first)?;
+        Ok(Replica {
+            place,
+            tree,
+            store,
+            lies: Lies::none(alloc),
+            harmed: false,
+        })
+    }
+
     /// A replica that has passed no request, over a server that is wiped, whatever it held. `Down`: the server failed.
     pub fn fresh(
         alloc: Global,
@@ -56,14 +74,9 @@ impl Replica {
         ensures watched { Watched (state server.old) (state server.new) result }
     {
         let tree = empty_tree(alloc, limits.n)?;
-        let first = tree.copy(alloc)?;
-        let store = CheckpointStore::new(alloc, 0, first)?;
+        let replica = Replica::begun_at(alloc, 0, tree)?;
         fresh(alloc, server, table, limits.n)?;
-        Ok(Replica {
-            place: 0,
-            tree,
-            store,
-        })
+        Ok(replica)
     }
 
     /// Runs the request behind its place, from whatever array server and table stand for, passes that place, and takes
@@ -93,15 +106,16 @@ impl Replica {
         let word = answer(alloc, server, table, limits, time, call, &mut self.store)?;
         self.place += 1;
         let root = self.check(alloc, server, table, limits)?;
+        let spoken = self.lies.word_for(self.place, word)?;
         Ok(Cast {
             place: self.place,
-            word,
+            word: spoken,
             root,
         })
     }
 
-    /// Takes the checkpoint of its place where one is due, and gives the root of its digests then.
-    fn check(
+    /// Takes the checkpoint of its place where one is due, and gives its root word then.
+    pub(crate) fn check(
         &mut self,
         alloc: Global,
         server: &mut Srv,
@@ -124,7 +138,7 @@ impl Replica {
             return Ok(None);
         }
         self.take_checkpoint(alloc, server, table)?;
-        Ok(Some(self.tree.root()))
+        Ok(Some(self.lies.root_for(self.place, self.tree.root())))
     }
 
     /// Brings the digests of the objects told up to date, and takes the checkpoint of its place.

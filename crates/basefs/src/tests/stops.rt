@@ -78,7 +78,7 @@ fn logs_that_stop(rt: HostRuntime) -> Result<(), Fail> {
         (
             84,
             b"\0\0\0\x09\0\0\0\0\0\0\0\x01\0\0\0\0".as_slice(),
-            Status::NotBuilt { at: 84 },
+            Status::BadLog { at: 100 },
             0,
         ),
         (

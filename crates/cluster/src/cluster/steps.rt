@@ -15,7 +15,7 @@ use crate::lists::push_line;
 use cluster_model::Request;
 use log_format::{Event, Line};
 use nfs2_types::{Blob, NoMemory, Time};
-use replica::Replica;
+use replica::{Lie, Replica};
 use server_trait::{Bench, FaultPoint, FileServer, Srv};
 use std::alloc::Global;
 
@@ -62,6 +62,30 @@ impl Cluster {
             Event::Run { r } => self.run(alloc, bench, met, lines, r),
             Event::RunAll => self.run_all(alloc, bench, met, lines),
             Event::End => self.end(lines),
+            Event::Rogue { r, time, bytes } => {
+                self.rogue(alloc, bench, met, lines, r, &Request { time, bytes })
+            }
+            Event::Skip { r } => self.skip(alloc, bench, met, lines, r),
+            Event::Wipe { r } => self.wipe(alloc, bench, met, lines, r),
+            Event::LieReply { r, place, word } => {
+                self.lie(bench, lines, r, Lie::OfWord { place, word })
+            }
+            Event::LieRoot { r, place, root } => {
+                self.lie(bench, lines, r, Lie::OfRoot { place, root })
+            }
+            Event::LieItem {
+                r,
+                level,
+                number,
+                bytes,
+            } => {
+                let lie = Lie::OfItem {
+                    level,
+                    number,
+                    text: bytes,
+                };
+                self.lie(bench, lines, r, lie)
+            }
             _ => Ok(()),
         }
     }

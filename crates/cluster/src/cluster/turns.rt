@@ -16,7 +16,7 @@ use std::alloc::Global;
 
 impl Cluster {
     /// The place behind which a replica runs its next request, or why it has no turn.
-    fn next_of(&self, r: u32) -> Result<usize, IdleCause>
+    pub(super) fn next_of(&self, r: u32) -> Result<usize, IdleCause>
         requires { r < vec_len self.now.seats }
         ensures { result ≡ next_in (kept self.now) (slice_index_or self.now.seats.items r None) }
     {

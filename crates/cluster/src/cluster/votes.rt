@@ -2,7 +2,7 @@
 
 ghost use Rattle.std.specs.Prelude.{◌≡◌, ◌<◌, OnOk, IfOk, option_map, vec_len};
 ghost use Rattle.cluster.specs.Kept.{kept};
-ghost use Rattle.cluster.specs.Casting.{Counted, Rooted, SeatsSee, Voted, sees};
+ghost use Rattle.cluster.specs.Casting.{Counted, Rooted, RootedIf, SeatsSee, Voted, sees};
 
 use super::Cluster;
 use crate::lists::{copied, decision_line, push_line};
@@ -50,10 +50,27 @@ impl Cluster {
         ensures voted { OnOk result (Voted r cast (kept self.old) (kept self.new) lines.old.items lines.new.items) }
     {
         self.cast(lines, r, cast.place, cast.word)?;
-        let Some(root) = cast.root else {
+        self.vote_root(alloc, lines, r, cast.place, cast.root)?;
+        Ok(())
+    }
+
+    /// Casts the root word of a replica for a place, where it has one.
+    pub(super) fn vote_root(
+        &mut self,
+        alloc: Global,
+        lines: &mut Vec<Line>,
+        r: u32,
+        place: u32,
+        root: Option<Digest>,
+    ) -> Result<(), NoMemory>
+        requires voter { r < vec_len self.old.seats }
+        ensures rooted { OnOk result (RootedIf r place root (kept self.old) (kept self.new)
+            lines.old.items lines.new.items) }
+    {
+        let Some(root) = root else {
             return Ok(());
         };
-        self.cast_root(alloc, lines, r, cast.place, root)?;
+        self.cast_root(alloc, lines, r, place, root)?;
         Ok(())
     }
 

@@ -4,7 +4,7 @@ use Rattle.abs_model.specs.Array.{changed}
 use Rattle.abs_model.specs.Valid.{Valid}
 use Rattle.partition_tree.specs.Digests.{IsRoot}
 use Rattle.replica.specs.declared.running.Replica.{Replica}
-use Rattle.recovery.specs.Ends.{live_at}
+use Rattle.replica.specs.Replicas.{digests_of, begun_at}
 use Rattle.recovery.specs.Rebuilt.{Rebuilt}
 use Rattle.recovery.proofs.Fetching.{back_is, same_place, none_left}
 use Rattle.recovery.proofs.Put.{has_root}
@@ -42,7 +42,7 @@ returns-clause-live g c A place st aimed =
     let B = changed c.changes-changes.result.0.items A in
     c.in_ok-replica.ensures.live B
     (valid_for c.args.limits.now _ c.put_objs.new.table B c.requires.can.within (c.in-Ok.ensures.stands A st))
-    ∙ (λ i. live_at (same i) (changed (cs i) A))
+    ∙ (λ i. begun_at (same i) (digests_of (changed (cs i) A)))
 
 pub returns-clause-root : goal.returns-clause-root
 returns-clause-root g c A got st h =
@@ -52,5 +52,5 @@ returns-clause-root g c A got st h =
     let live = c.in_ok-replica.ensures.live B
     (valid_for c.args.limits.now _ c.put_objs.new.table B c.requires.can.within (c.in-Ok.ensures.stands A st)) in
     subst (λ (k : Replica). IsRoot k.tree c.args.self.root)
-    (sym (live ∙ (λ i. live_at c.unwrap-place.result (changed (cs i) A))))
+    (sym (live ∙ (λ i. begun_at c.unwrap-place.result (digests_of (changed (cs i) A)))))
     (has_root A got c.args.self h (none_left c.args.self.fetch.stand c.requires.whole))

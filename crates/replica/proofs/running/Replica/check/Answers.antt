@@ -12,7 +12,7 @@ returns-clause-root g c =
     let k = c.args.limits.now.k in
     let due : (c.args.self.now.place % k == 0) ≡ true =
     eq-eqb (c.args.self.now.place % k) 0 c.if-self-limits-ne0.false in
-    (ap (λ (x : Replica). x.place % k == 0) taken ∙ due, c.root.ensures)
+    (ap (λ (x : Replica). x.place % k == 0) taken ∙ due, (c.root.result, c.root.ensures, c.root_for.ensures))
 
 pub returns-clause-over : goal.returns-clause-over
 returns-clause-over g c =

@@ -21,4 +21,4 @@ pub returns-clause-passed : goal.returns-clause-passed
 returns-clause-passed g c = passed_is c.args.limits.now c.requires.within c.args.time c.args.call.now _ _ _
     c.answer.new.table c.args.self.now c.answer.new.saver c.in_ok-word.word c.in_ok-word.ensures.answers
     (c.args.self.now.place + 1) refl _ c.in_ok-root.ensures.same c.check.new.self _ c.in_ok-root.ensures.checked
-    refl refl c.in_ok-root.ensures.root
+    refl c.in_ok-spoken.ensures c.in_ok-root.ensures.root

@@ -20,6 +20,12 @@ take-requires-clause-size g c = c.refresh.ensures.size ∙ c.requires.over.diges
 
 pub returns-clause-taken : goal.returns-clause-taken
 returns-clause-taken g c = λ A st. taken_is A c.args.self.now
-    (record { place = c.args.self.now.place; tree = c.refresh.new.tree; store = c.take.new.self }) c.as_slice.result.now
+    (record {
+      place = c.args.self.now.place;
+      tree = c.refresh.new.tree;
+      store = c.take.new.self;
+      lies = c.args.self.now.lies;
+      harmed = c.args.self.now.harmed;
+    }) c.as_slice.result.now
     refl (λ i. ap (is_told i) c.as_slice.ensures.value ∙ c.in_ok-told.ensures.touched.same i)
-    (c.in_ok-refresh.ensures.refreshed A st) c.in_ok-take.ensures
+    (c.in_ok-refresh.ensures.refreshed A st) c.in_ok-take.ensures refl refl

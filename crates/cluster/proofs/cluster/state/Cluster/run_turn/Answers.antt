@@ -57,12 +57,11 @@ returns-in_ok-vote-in-Ok-clause-turned g c =
     let at = at_index v.seats r c.index_mut.result.now (Some k) within c.index_mut.ensures.value
     (sym c.take.ensures.value ∙ c.in-Some.is) in
     let h = next_here v r c.args.next (next_is v r c.args.next within c.requires.next) k at in
-    turned_runs _ v _ (kept c.vote.new.self) _ _ _ _ r k k' c.index.result.now _ _ _ _ c.run_at-ran.result c.in-Ok.cast
-    c.in-Ok.is (sized_of v.limits s.within s.sizes) within at
+    turned_runs _ v _ _ _ _ r k c.index.result.now (sized_of v.limits s.within s.sizes) within at
     (subst (λ n. slice_get v.requests n ≡ Some c.index.result.now) h.place
     (at_index v.requests c.args.next c.index.result.now c.index.result.now h.request c.index.ensures refl)) h.near
-    (s.over r k at) c.in-Ok.ensures.over c.run_at-ran.ensures.watched c.in-Ok.ensures.passed c.run_at-ran.ensures.servers
-    c.run_at-ran.ensures.tables
+    c.run_at-ran.ensures.servers c.run_at-ran.ensures.tables _ (kept c.vote.new.self) k' _ _ _ _ c.run_at-ran.result
+    c.in-Ok.cast c.in-Ok.is (s.over r k at) c.in-Ok.ensures.over c.run_at-ran.ensures.watched c.in-Ok.ensures.passed
     (ap (λ xs. let x : Kept = record v { seats = xs } in x) (set-set v.seats r c.take.new.self (Some k')))
     c.in_ok-vote-in-Ok.ensures.voted refl
 
@@ -98,11 +97,11 @@ returns-in_ok-push_point-in-Err-Down-clause-turned g c =
     let h = next_here v r c.args.next (next_is v r c.args.next within c.requires.next) k at in
     let e : c.run_at-ran.result ≡ Err c.in-Err-Down.field-0 = c.in-Err-Down.is in
     let f : c.in-Err-Down.field-0 ≡ Down = rw e at c.in-Err-Down.field-0-is in
-    turned_fails _ v _ _ _ _ _ r k c.index.result.now _ _ _ _ _ c.run_at-ran.result (e ∙ ap Err f)
-    (sized_of v.limits s.within s.sizes) within at
+    turned_fails _ v _ _ _ _ r k c.index.result.now (sized_of v.limits s.within s.sizes) within at
     (subst (λ n. slice_get v.requests n ≡ Some c.index.result.now) h.place
     (at_index v.requests c.args.next c.index.result.now c.index.result.now h.request c.index.ensures refl)) h.near
-    c.run_at-ran.ensures.watched c.run_at-ran.ensures.servers c.run_at-ran.ensures.tables
+    c.run_at-ran.ensures.servers c.run_at-ran.ensures.tables _ _ _ _ _ _ c.run_at-ran.result (e ∙ ap Err f)
+    c.run_at-ran.ensures.watched
     (ap (λ o. let x : Kept = record v { seats = slice_set v.seats r o } in x) c.take.ensures.after)
     c.in_ok-push_line-in-Err-Down.ensures c.in_ok-push_point-in-Err-Down.ensures refl
 

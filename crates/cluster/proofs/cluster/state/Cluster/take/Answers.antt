@@ -22,3 +22,27 @@ pub returns-in-End-clause-went : goal.returns-in-End-clause-went
 returns-in-End-clause-went g c = went_of _ c.end.result _ _ (sym c.in-End.is) (kept c.args.self.now)
     (kept c.args.self.now) _ _ _ _ _ _
     (end_went _ c.end.result (kept c.args.self.now) _ _ _ _ _ c.requires.none.0 c.requires.none.1 c.end.ensures)
+
+pub returns-in-Rogue-clause-went : goal.returns-in-Rogue-clause-went
+returns-in-Rogue-clause-went g c = went_of _ c.rogue.result _ _ (sym c.in-Rogue.is) (kept c.args.self.now)
+    (kept c.rogue.new.self) _ _ _ _ _ _ c.rogue.ensures.went
+
+pub returns-in-Skip-clause-went : goal.returns-in-Skip-clause-went
+returns-in-Skip-clause-went g c = went_of _ c.skip.result _ _ (sym c.in-Skip.is) (kept c.args.self.now)
+    (kept c.skip.new.self) _ _ _ _ _ _ c.skip.ensures.went
+
+pub returns-in-Wipe-clause-went : goal.returns-in-Wipe-clause-went
+returns-in-Wipe-clause-went g c = went_of _ c.wipe.result _ _ (sym c.in-Wipe.is) (kept c.args.self.now)
+    (kept c.wipe.new.self) _ _ _ _ _ _ c.wipe.ensures.went
+
+pub returns-in-LieReply-clause-went : goal.returns-in-LieReply-clause-went
+returns-in-LieReply-clause-went g c = went_of _ c.lie.result _ _ (sym c.in-LieReply.is) (kept c.args.self.now)
+    (kept c.lie.new.self) _ _ _ _ _ _ (c.lie.ensures.went _ c.requires.none.0)
+
+pub returns-in-LieRoot-clause-went : goal.returns-in-LieRoot-clause-went
+returns-in-LieRoot-clause-went g c = went_of _ c.lie-in-LieRoot.result _ _ (sym c.in-LieRoot.is) (kept c.args.self.now)
+    (kept c.lie-in-LieRoot.new.self) _ _ _ _ _ _ (c.lie-in-LieRoot.ensures.went _ c.requires.none.0)
+
+pub returns-in-LieItem-clause-went : goal.returns-in-LieItem-clause-went
+returns-in-LieItem-clause-went g c = went_of _ c.lie-in-LieItem.result _ _ (sym c.in-LieItem.is) (kept c.args.self.now)
+    (kept c.lie-in-LieItem.new.self) _ _ _ _ _ _ (c.lie-in-LieItem.ensures.went _ c.requires.none.0)
