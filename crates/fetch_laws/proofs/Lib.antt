@@ -1,0 +1,4 @@
+mod Expected
+mod Wordy
+mod Changed
+mod Made
