@@ -11,10 +11,15 @@ use Rattle.log_format.specs.Lines.{text_of}
 use Rattle.log_stream.specs.Writing.{Writes}
 use Rattle.log_stream.proofs.WriteSteps.{Appends-none}
 use Rattle.cluster_model.specs.Good.{FitsEvent}
-use Rattle.cluster_model.specs.Run.{start, AreMet}
+use Rattle.cluster_model.specs.Steady.{IsSteady}
+use Rattle.cluster_model.specs.Moments.{Moment}
+use Rattle.cluster_model.specs.Run.{fresh, start, AreMet}
+use Rattle.cluster_model.proofs.Steady.{start_steady}
+use Rattle.cluster_model.proofs.Voted.{Always-last}
 use Rattle.service_laws.specs.Served.{IsSized, service}
+use Rattle.service_laws.proofs.Served.{service_lawful}
 use Rattle.cluster_model.specs.declared.Request.{Request}
-use Rattle.cluster.specs.Positions.{AreLater}
+use Rattle.seats.specs.Positions.{AreLater}
 use Rattle.cluster.specs.OverBench.{Kept}
 use Rattle.cluster.specs.Steps.{Starts}
 use Rattle.basefs.specs.declared.run_err.RunErr.{RunErr}
@@ -35,6 +40,14 @@ module _ {X : Type 0} (state : X → Server) (limits : Limits) (kept : Kept) (se
     (tables tables' : List ConfTable) (downs downs' : List FaultPoint) (lines : List Line)
     (s : Starts state limits kept servers servers' tables' downs' lines)
     (later : AreLater state (3 * limits.f + 1) servers servers') (sized : IsSized limits) where
+  -- the last moment of the start is steady
+  steady : IsSteady (service limits)
+      (end_of limits (length servers) (start (service limits) (length servers) downs')).state
+  steady =
+      let all = start_steady (service limits) (service_lawful limits sized).spelled (length servers) downs' in
+      Always-last (λ (m : Moment). IsSteady (service limits) m.state) (fresh (service limits) (length servers))
+      (start (service limits) (length servers) downs') all.0 all
+
   here : Here state limits servers servers' tables' downs' kept []
   here = record {
     ms = start (service limits) (length servers) downs';
@@ -42,6 +55,7 @@ module _ {X : Type 0} (state : X → Server) (limits : Limits) (kept : Kept) (se
     sized = sized;
     fits = All-nil (FitsEvent (service limits));
     is_state = s.stands;
+    steady = steady;
     requests = s.requests;
     counted = s.events;
     limits_are = s.limits_are;

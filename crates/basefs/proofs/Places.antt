@@ -1,19 +1,19 @@
 -- The servers of a bench, by their places.
-use Rattle.std.proofs.Common.{◌≡◌, ℕ, ◌<◌, ◌≤◌, List, length, get_or, slice_get, Option, Some, None, sym, ◌∙◌, subst, arith}
+use Rattle.std.proofs.Common.{◌≡◌, ℕ, ◌<◌, ◌≤◌, List, length, get_or, slice_get, Option, Some, sym, ◌∙◌, subst, arith}
 use Rattle.std.specs.Prelude.{slice_index_or}
 use Rattle.std.proofs.lemmas.Option.{slice_get_within, slice_get-get_or}
 use Rattle.nfs2_types.specs.declared.Limits.{Limits}
-use Rattle.abs_model.specs.declared.Entry.{Entry}
 use Rattle.server_trait.specs.Tree.{Server}
 use Rattle.server_trait.specs.declared.ConfTable.{ConfTable}
 use Rattle.cluster_model.specs.Tree.{below}
-use Rattle.cluster_model.specs.State.{Running, Condition, Live, Down, State}
+use Rattle.cluster_model.specs.State.{Running, Condition, Live, Rebuilding, Down, State}
 use Rattle.cluster_model.specs.Moments.{Moment}
 use Rattle.cluster_model.specs.Turns.{last}
 use Rattle.cluster_model.proofs.Seats.{live_within}
-use Rattle.replica.specs.declared.Replica.{Replica}
-use Rattle.cluster.specs.Positions.{StandsAt, AreLater}
-use Rattle.cluster.specs.OverBench.{Kept, IsSeat, IsState, HaveArrays}
+use Rattle.seats.specs.declared.Seat.{Seat}
+use Rattle.seats.specs.declared.Seat.TheVariants.{Live as LiveSeat, Rebuilding as RebuildingSeat, Down as DownSeat}
+use Rattle.seats.specs.Positions.{StandsAt, AreLater}
+use Rattle.cluster.specs.OverBench.{Kept, IsSeat, IsState}
 use Rattle.cluster.specs.Steps.{ServersAreStruck}
 use Rattle.cluster.proofs.Struck.{below_is}
 use Rattle.basefs.specs.Servers.{LiveStand, ServersAreWorn}
@@ -29,30 +29,13 @@ at_place xs ys r x same e =
 
 -- WHAT LIVE REPLICAS STAND FOR
 
-some_some : {X : Type 0} (a : Option (Option X)) (x : X) (o : Option X) → a ≡ Some o → a ≡ Some (Some x) → o ≡ Some x
-some_some a x o e f = let g : Some o ≡ Some (Some x) = sym e ∙ f in cc
-
 module _ {X : Type 0} (state : X → Server) where
-  seat_array : (limits : Limits) (k : Option Replica) (x : Replica) (s : Option X) (t : Option ConfTable)
-      (c : Condition) →
-      k ≡ Some x → IsSeat state limits k s t c → (A : List Entry) × StandsAt state limits s t A
-  seat_array limits None x s t c e h = absurd (let f : None ≡ Some x = e in cc)
-  seat_array limits (Some k) x s t c e h = (h.live.array, h.stands)
-
-  -- server and table of each replica that is not down stand for an array
-  pub have_arrays : {c : Kept} {servers : List X} {tables : List ConfTable} {s : State} →
-      IsState state c servers tables s →
-      HaveArrays state c servers tables
-  have_arrays {c = c} h r k e =
-      let within : r < length c.seats = slice_get_within c.seats r (Some k) e in
-      let is : slice_index_or c.seats r None ≡ Some k =
-      some_some (slice_get c.seats r) k (get_or c.seats r None) (slice_get-get_or c.seats r None within) e in
-      seat_array c.limits (slice_index_or c.seats r None) k _ _ _ is (h.conditions r within)
-
-  seat_stands : (limits : Limits) (k : Option Replica) (s : Option X) (t : Option ConfTable) (c : Condition)
-      (l : Running) → c ≡ Live l → IsSeat state limits k s t c → StandsAt state limits s t l.array
-  seat_stands limits None s t c l e h = absurd (let f : Down ≡ Live l = sym h ∙ e in cc)
-  seat_stands limits (Some k) s t c l e h =
+  seat_stands : (limits : Limits) (o : Seat) (s : Option X) (t : Option ConfTable) (c : Condition) (l : Running) →
+      c ≡ Live l → IsSeat state limits o s t c → StandsAt state limits s t l.array
+  seat_stands limits DownSeat s t c l e h = absurd (let f : Down ≡ Live l = sym h ∙ e in cc)
+  seat_stands limits (RebuildingSeat b) s t c l e h =
+      absurd (let f : Rebuilding h.fetching ≡ Live l = sym h.is_rebuilding ∙ e in cc)
+  seat_stands limits (LiveSeat k) s t c l e h =
       let same : h.live ≡ l = (let f : Live h.live ≡ Live l = sym h.is_live ∙ e in cc) in
       subst (λ (x : Running). StandsAt state limits s t x.array) same h.stands
 
@@ -61,7 +44,7 @@ module _ {X : Type 0} (state : X → Server) where
   live_stand {c = c} {servers = servers} {tables = tables} {s = s} limits is h r l e =
       let within : r < length c.seats = (let w = live_within s r l e in let z = h.size in omega arith) in
       subst (λ (x : Limits). StandsAt state x (slice_get servers r) (slice_get tables r) l.array) is
-      (seat_stands c.limits (slice_index_or c.seats r None) _ _ _ l e (h.conditions r within))
+      (seat_stands c.limits (slice_index_or c.seats r DownSeat) _ _ _ l e (h.conditions r within))
 
   -- WHAT BECOMES OF THE SERVERS
 

@@ -1,6 +1,6 @@
 -- The records of a log: the first of them, and the others.
-use Rattle.std.proofs.Common.{◌≡◌, ℕ, suc, ◌+◌, ◌-◌, ◌<◌, Bool, true, false, cond, leb, List, [], ◌++◌, length, Option, Some, None, inl, inr, refl, sym, ap, subst, ◌∙◌, length-append, arith}
-use Rattle.std.specs.Prelude.{◌||◌, ◌*◌, ◌^◌}
+use Rattle.std.proofs.Common.{◌≡◌, ℕ, suc, ◌+◌, ◌-◌, ◌<◌, Bool, true, false, cond, leb, List, [], ◌++◌, length, Option, Some, None, refl, subst, length-append, arith}
+use Rattle.std.specs.Prelude.{◌||◌, ◌^◌}
 use Rattle.nfs2_types.specs.declared.Limits.{Limits}
 use Rattle.nfs2_types.specs.declared.Time.{Time}
 use Rattle.std.proofs.lemmas.Bool.{leb-false}
@@ -91,6 +91,10 @@ can_step limits servers q taken (records.Run r) h j = record_numbers limits.f se
 can_step limits servers q taken (records.Rogue r time bytes) h j = (
     let n = record_numbers limits.f servers (taken ++ []) [] (records.Rogue r time bytes) (h []) in
     (n.0, n.1.moment))
+can_step limits servers q taken (records.Reboot r) h j =
+    record_numbers limits.f servers (taken ++ []) [] (records.Reboot r) (h [])
+can_step limits servers q taken (records.Fetch r n) h j =
+    record_numbers limits.f servers (taken ++ []) [] (records.Fetch r n) (h [])
 can_step limits servers q taken (records.Skip r) h j =
     record_numbers limits.f servers (taken ++ []) [] (records.Skip r) (h [])
 can_step limits servers q taken (records.LieReply r place w) h j =

@@ -1,5 +1,5 @@
 -- A replay from its header on.
-use Rattle.std.proofs.Common.{◌≡◌, ◌⊎◌, inl, inr, ℕ, ◌+◌, ◌*◌, ◌^◌, ◌<◌, ◌≤◌, Bool, true, false, ◌||◌, ◌&&◌, ltb, List, [], ◌++◌, length, Option, Some, None, Ok, Err, refl, sym, ap, subst, ◌∙◌, arith}
+use Rattle.std.proofs.Common.{◌≡◌, ◌⊎◌, inl, inr, ℕ, ◌+◌, ◌*◌, ◌≤◌, Bool, true, false, ◌||◌, ◌&&◌, ltb, List, [], ◌++◌, length, Option, Some, None, Ok, Err, refl, sym, ap, subst, ◌∙◌, arith}
 use Rattle.std.specs.Prelude.{◌==◌, nat_le}
 use Rattle.std.specs.Io.KnownBytes.{Consumes}
 use Rattle.std.proofs.lemmas.Bool.{eqb-true, leb-true}
@@ -15,7 +15,7 @@ use Rattle.log_stream.specs.declared.ReadErr.TheVariants as read
 use Rattle.log_stream.specs.Reading.{Refuses as Unread, Reads}
 use Rattle.cluster_model.proofs.VotedRuns.{and_true}
 use Rattle.service_laws.specs.Served.{IsSized}
-use Rattle.cluster.specs.Positions.{AreLater}
+use Rattle.seats.specs.Positions.{AreLater}
 use Rattle.cluster.specs.OverBench.{HaveRoom}
 use Rattle.basefs.specs.declared.status.Status.{Status}
 use Rattle.basefs.specs.Log.{Log, Stop, whole, bad, not_built, too_few, too_small, stops, limits_of, by_bench, log_of}

@@ -19,13 +19,17 @@ use Rattle.outside.specs.declared.SinkErr.TheVariants as sink
 use Rattle.cluster_model.specs.Tree.{below}
 use Rattle.cluster_model.specs.Moments.{Moment}
 use Rattle.cluster_model.specs.Turns.{last}
-use Rattle.cluster_model.specs.Good.{FitsEvent}
+use Rattle.cluster_model.specs.Good.{FitsEvent, AllGood}
+use Rattle.cluster_model.specs.Steady.{IsSteady}
 use Rattle.cluster_model.specs.Loose.{LooseStep}
+use Rattle.cluster_model.specs.Walk.{WalkedStep}
 use Rattle.cluster_model.specs.Run.{faults_in, fresh, LooseRun, AreMet, failed_of}
 use Rattle.cluster_model.proofs.Growing.{run_snoc, last-append}
 use Rattle.cluster_model.proofs.Struck.{IsAmong, struck_then}
+use Rattle.cluster_model.proofs.Steady.{code_step}
 use Rattle.service_laws.specs.Served.{service}
-use Rattle.cluster.specs.Positions.{AreLater}
+use Rattle.service_laws.proofs.Served.{service_lawful}
+use Rattle.seats.specs.Positions.{AreLater}
 use Rattle.cluster.specs.OverBench.{Kept, IsState}
 use Rattle.cluster.specs.Steps.{Follows, Steps, asked_by}
 use Rattle.basefs.specs.declared.run_err.RunErr.{RunErr}
@@ -59,13 +63,22 @@ module _ {X : Type 0} {state : X → Server} {limits : Limits} {before servers s
   m = end_of limits (length before) h.ms
 
   follows : Follows state kept kept' servers servers' tables' s.met e lines m
-  follows = s.moves m h.is_state
+  follows =
+      s.moves m (subst (λ (x : Limits). AllGood (service x) m.state) (sym h.limits_are) h.steady.good) h.is_state
 
-  is_step : LooseStep (service limits) (faults_in s.met (suc (length events))) e m follows.ms
-  is_step =
-      subst (λ (n : ℕ). LooseStep (service limits) (faults_in s.met (suc n)) e m follows.ms) h.counted
-      (subst (λ (x : Limits). LooseStep (service x) (faults_in s.met (suc kept.events)) e m follows.ms) h.limits_are
+  walked : WalkedStep (service limits) (faults_in s.met (suc (length events))) e m follows.ms
+  walked =
+      subst (λ (n : ℕ). WalkedStep (service limits) (faults_in s.met (suc n)) e m follows.ms) h.counted
+      (subst (λ (x : Limits). WalkedStep (service x) (faults_in s.met (suc kept.events)) e m follows.ms) h.limits_are
       follows.is_step)
+
+  -- from a steady moment a walked step is a loose one, and leads to a steady one
+  lifted : LooseStep (service limits) (faults_in s.met (suc (length events))) e m follows.ms
+      × IsSteady (service limits) (last m follows.ms).state
+  lifted =
+      let step = code_step (service limits) (service_lawful limits h.sized) (faults_in s.met (suc (length events))) e
+      fits m follows.ms h.steady walked in
+      (step.0, step.1)
 
   points_here : All (IsOf limits (suc (length events))) s.met
   points_here =
@@ -90,7 +103,7 @@ module _ {X : Type 0} {state : X → Server} {limits : Limits} {before servers s
       subst (λ (d : List FaultPoint). LooseRun (service limits) (length before) d (events ++ e ∷ [])
       (h.ms ++ follows.ms)) (sym s.downs_are)
       (run_snoc (service limits) (length before) downs s.met events e h.ms follows.ms numbered h.points.events h.is_run
-      is_step)
+      lifted.0)
 
   one_more : length (events ++ e ∷ []) ≡ suc (length events)
   one_more = omega (arith, length-append events (e ∷ []))
@@ -117,6 +130,7 @@ module _ {X : Type 0} {state : X → Server} {limits : Limits} {before servers s
     sized = h.sized;
     fits = All-push (FitsEvent (service limits)) events e h.fits fits;
     is_state = subst (λ (n : Moment). IsState state kept' servers' tables' n.state) (sym end_is) follows.stands;
+    steady = subst (λ (n : Moment). IsSteady (service limits) n.state) (sym end_is) lifted.1;
     requests = s.requests ∙ ap (λ q. q ++ asked_by e) h.requests
         ∙ sym (flat_map-append asked_by events (e ∷ [])
         ∙ ap (λ q. requests_of events ++ q) (append-nil (asked_by e)));

@@ -17,7 +17,7 @@ use Rattle.log_stream.specs.Reading.{Reads}
 use Rattle.outside.specs.declared.SinkErr.TheVariants as sink
 use Rattle.cluster_model.specs.declared.Request.{Request}
 use Rattle.cluster_model.specs.Good.{FitsEvent}
-use Rattle.cluster.specs.Positions.{AreLater}
+use Rattle.seats.specs.Positions.{AreLater}
 use Rattle.cluster.specs.OverBench.{Kept}
 use Rattle.cluster.specs.Steps.{asked_by}
 use Rattle.basefs.specs.declared.run_err.RunErr.{RunErr}

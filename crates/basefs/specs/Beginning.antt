@@ -3,7 +3,7 @@ use Rattle.std.specs.Prelude.{◌≡◌, ◌⊎◌, ℕ, ◌+◌, ◌*◌, List,
 use Rattle.nfs2_types.specs.declared.Limits.{Limits}
 use Rattle.server_trait.specs.Tree.{Server}
 use Rattle.cluster.specs.declared.cluster.state.Cluster.{Cluster}
-use Rattle.cluster.specs.Positions.{AreLater}
+use Rattle.seats.specs.Positions.{AreLater}
 use Rattle.cluster.specs.Kept.{kept}
 use Rattle.basefs.specs.declared.run_err.RunErr.{RunErr}
 use Rattle.basefs.specs.declared.run_err.RunErr.TheVariants.{NoMemory}

@@ -13,9 +13,10 @@ use Rattle.outside.specs.declared.SinkErr.{SinkErr}
 use Rattle.outside.specs.declared.SinkErr.TheVariants as sink
 use Rattle.cluster_model.specs.Moments.{Moment}
 use Rattle.cluster_model.specs.Good.{FitsEvent}
+use Rattle.cluster_model.specs.Steady.{IsSteady}
 use Rattle.cluster_model.specs.Run.{fresh, LooseRun, AreMet}
 use Rattle.service_laws.specs.Served.{IsSized, service}
-use Rattle.cluster.specs.Positions.{AreLater}
+use Rattle.seats.specs.Positions.{AreLater}
 use Rattle.cluster.specs.OverBench.{Kept, IsState}
 use Rattle.cluster.specs.Steps.{ServersAreStruck}
 use Rattle.basefs.specs.declared.run_err.RunErr.{RunErr}
@@ -48,6 +49,7 @@ pub record Here {X : Type 0} (state : X → Server) (limits : Limits) (before se
   pub sized : IsSized limits
   pub fits : All (FitsEvent (service limits)) events
   pub is_state : IsState state kept servers tables (end_of limits (length before) ms).state
+  pub steady : IsSteady (service limits) (end_of limits (length before) ms).state
   pub requests : kept.requests ≡ requests_of events
   pub counted : kept.events ≡ length events
   pub limits_are : kept.limits ≡ limits

@@ -4,7 +4,7 @@ use Rattle.server_trait.specs.Tree.{Server}
 use Rattle.server_trait.specs.declared.ServerLimits.{ServerLimits}
 use Rattle.log_format.specs.declared.Header.{Header}
 use Rattle.log_format.specs.Records.{header_at}
-use Rattle.cluster.specs.Positions.{AreLater}
+use Rattle.seats.specs.Positions.{AreLater}
 use Rattle.basefs.specs.declared.status.Status.{Status}
 use Rattle.basefs.specs.declared.status.Status.TheVariants as status
 use Rattle.basefs.specs.Log.{Log, Stop, too_few, too_small, stops, is_small, limits_of, by_bench, log_of}

@@ -9,7 +9,7 @@ use Rattle.cluster_model.specs.State.{Running, Live, State}
 use Rattle.cluster_model.specs.Moments.{Moment, replica}
 use Rattle.cluster_model.specs.Turns.{last}
 use Rattle.cluster_model.specs.Run.{strikes}
-use Rattle.cluster.specs.Positions.{StandsAt}
+use Rattle.seats.specs.Positions.{StandsAt}
 
 -- server and table at the position of each live replica stand for its array
 abbrev pub LiveStand : {X : Type 0} → (X → Server) → Limits → State → List X → List ConfTable → Type 0

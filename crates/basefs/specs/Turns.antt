@@ -7,7 +7,7 @@ use Rattle.log_format.specs.declared.Event.{Event}
 use Rattle.log_format.specs.declared.Line.{Line}
 use Rattle.log_format.specs.Lines.{text_of}
 use Rattle.log_stream.specs.Writing.{Writes}
-use Rattle.cluster.specs.OverBench.{Kept}
+use Rattle.cluster.specs.OverBench.{Kept, HaveArrays}
 use Rattle.cluster.specs.Steps.{Steps}
 use Rattle.basefs.specs.declared.run_err.RunErr.{RunErr}
 use Rattle.basefs.specs.declared.run_err.RunErr.TheVariants.{NoMemory}
@@ -40,3 +40,8 @@ Stepped state kept kept' servers servers' tables tables' downs downs' held held'
 abbrev pub IsNear : Kept → Kept → ℕ → Turn → Type 0
 IsNear old new place (Goes next) = (next ≤ place + 65560) × (new.events ≡ suc old.events)
 IsNear old new place (Over status) = Unit {0}
+
+-- where the run goes on, each replica has server and table, and those of one that is not down stand for a valid array
+abbrev pub HaveArraysAfter : {X : Type 0} → (X → Server) → Kept → List X → List ConfTable → Turn → Type 0
+HaveArraysAfter state kept servers tables (Goes next) = HaveArrays state kept servers tables
+HaveArraysAfter state kept servers tables (Over status) = Unit {0}

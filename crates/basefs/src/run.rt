@@ -1,10 +1,11 @@
 //! A run over the replicas, from behind the header of a log.
 
-ghost use Rattle.std.specs.Prelude.{◌≡◌, ◌<◌, ◌≤◌, ◌+◌, ◌*◌, ◌^◌, ℕ, List, Option, vec_len};
+ghost use Rattle.std.specs.Prelude.{◌≡◌, ◌<◌, ◌≤◌, ◌+◌, ◌*◌, ◌^◌, ℕ, List, Option, IfOk, vec_len};
 ghost use Rattle.nfs2_types.specs.Counts.{Rose};
 ghost use Rattle.conf_map.specs.Stands.{AreWithin};
 ghost use Rattle.service_laws.specs.Served.{IsSized};
-ghost use Rattle.cluster.specs.OverBench.{HaveRoom};
+ghost use Rattle.cluster.specs.Kept.{kept};
+ghost use Rattle.cluster.specs.OverBench.{HaveArrays, HaveRoom};
 ghost use Rattle.basefs.specs.Setting.{setting};
 ghost use Rattle.basefs.specs.Beginning.{Begun, RunsAll};
 
@@ -41,6 +42,8 @@ fn begin<O: Sink>(
         (setting left (O.written out.old) bench.old.servers.items bench.old.tables.items bench.old.downs.items)
         (setting left (O.written out.new) bench.new.servers.items bench.new.tables.items bench.new.downs.items)
         result }
+    ensures arrays { IfOk result (λ c. HaveArrays ⟦<Srv as FileServer>⟧.state (kept c)
+        bench.new.servers.items bench.new.tables.items) }
     ensures writes { O.faults out.old ≤ O.faults out.new }
     ensures write { result ≡ Err (RunErr.Sink SinkErr.Failed) → Rose (O.faults out.old) (O.faults out.new) }
 {

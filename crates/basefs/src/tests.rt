@@ -6,6 +6,7 @@ mod faults;
 mod harm;
 mod mount;
 mod names;
+mod reboots;
 mod replicas;
 mod session;
 mod space;
@@ -60,6 +61,10 @@ const RUN: u32 = 2;
 const RUN_ALL: u32 = 3;
 
 const REBOOT: u32 = 4;
+
+const FETCH: u32 = 5;
+
+const SWAP: u32 = 13;
 
 const END: u32 = 14;
 
@@ -175,10 +180,11 @@ fn a_directory_is_made_and_found(rt: HostRuntime) -> Result<(), Fail> {
             &[RUN_ALL],
             &make_dir(3),
             &[RUN_ALL],
-            &[REBOOT, 0],
+            &[SWAP, 0, 1],
         ],
     )?;
-    let (status, text) = run(rt.alloc(), log, WHOLE)?;
+    let mut bench = session::bench_of(rt.alloc(), 2, &[])?;
+    let (status, text) = run_bench(rt.alloc(), log, WHOLE, &mut bench)?;
     assert_eq!(rt; status, Status::NotBuilt { at: 400 });
     assert_eq!(rt; text.as_slice(), DIRECTORIES.as_bytes());
     Ok(())

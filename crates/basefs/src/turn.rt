@@ -1,6 +1,6 @@
 //! One record of a log: read, judged, stepped, and its lines written.
 
-ghost use Rattle.std.specs.Prelude.{◌≡◌, ◌+◌, ◌*◌, ◌<◌, ◌≤◌, ◌^◌, length, vec_len, IfOk};
+ghost use Rattle.std.specs.Prelude.{◌≡◌, ◌+◌, ◌*◌, ◌<◌, ◌≤◌, ◌^◌, length, vec_len, IfOk, OnOk};
 ghost use Rattle.nfs2_types.specs.Times.{is_time};
 ghost use Rattle.nfs2_types.specs.Counts.{Rose};
 ghost use Rattle.log_format.specs.Lines.{text_of};
@@ -8,13 +8,13 @@ ghost use Rattle.log_format.specs.Records.{record_at};
 ghost use Rattle.log_format.specs.Spelling.{record_len};
 ghost use Rattle.log_stream.specs.Reading.{Reads, ReadHasCause};
 ghost use Rattle.cluster.specs.Kept.{kept};
-ghost use Rattle.cluster.specs.Positions.{AreLater};
+ghost use Rattle.seats.specs.Positions.{AreLater};
 ghost use Rattle.cluster.specs.OverBench.{HaveArrays, HaveRoom};
 ghost use Rattle.cluster.specs.Steps.{CanStep};
 ghost use Rattle.basefs.specs.Setting.{setting};
 ghost use Rattle.basefs.specs.Log.{falls as falls_behind, judge_request as judge_request_of, judge as judge_of};
 ghost use Rattle.basefs.specs.Going.{read_status as status_of_read, run_status as status_of_run, Finishes, Turns};
-ghost use Rattle.basefs.specs.Turns.{Stepped, IsNear};
+ghost use Rattle.basefs.specs.Turns.{Stepped, IsNear, HaveArraysAfter};
 
 use crate::run_err::RunErr;
 use crate::status::Status;
@@ -159,6 +159,8 @@ fn step_and_write<O: Sink>(
     ensures stepped { Stepped ⟦<Srv as FileServer>⟧.state (kept cluster.old) (kept cluster.new)
         bench.old.servers.items bench.new.servers.items bench.old.tables.items bench.new.tables.items
         bench.old.downs.items bench.new.downs.items (O.written out.old) (O.written out.new) event result }
+    ensures arrays { OnOk result (HaveArrays ⟦<Srv as FileServer>⟧.state (kept cluster.new)
+        bench.new.servers.items bench.new.tables.items) }
     ensures writes { O.faults out.old ≤ O.faults out.new }
     ensures write { result ≡ Err (RunErr.Sink SinkErr.Failed) → Rose (O.faults out.old) (O.faults out.new) }
     ensures servers { AreLater ⟦<Srv as FileServer>⟧.state (3 * (kept cluster.old).limits.f + 1)
@@ -193,6 +195,8 @@ pub fn take_turn<S: Source, O: Sink>(
         bench.new.servers.items bench.new.tables.items bench.new.downs.items)
         (kept cluster.old) (kept cluster.new) place result }
     ensures near { IsNear (kept cluster.old) (kept cluster.new) place result }
+    ensures arrays { HaveArraysAfter ⟦<Srv as FileServer>⟧.state (kept cluster.new)
+        bench.new.servers.items bench.new.tables.items result }
     ensures reads { S.faults input.old ≤ S.faults input.new }
     ensures writes { O.faults out.old ≤ O.faults out.new }
     ensures read { result ≡ Turn.Over Status.ReadFault → Rose (S.faults input.old) (S.faults input.new) }

@@ -1,5 +1,5 @@
 -- The clauses of a beginning, over plain values: one replica, and those before it.
-use Rattle.std.proofs.Common.{◌≡◌, ℕ, suc, ◌+◌, ◌<◌, ◌≤◌, Bool, true, false, List, [], ◌∷◌, ◌++◌, map, length, slice_get, Option, Some, None, Result, Err, inl, inr, refl, sym, ◌∙◌, ap, subst, arith}
+use Rattle.std.proofs.Common.{◌≡◌, ℕ, suc, ◌+◌, ◌<◌, ◌≤◌, Bool, true, false, List, [], ◌∷◌, ◌++◌, map, length, slice_get, Option, Result, Err, inl, inr, refl, sym, ◌∙◌, ap, subst, arith}
 use Rattle.std.specs.Prelude.{slice_index_or}
 use Rattle.std.specs.List.{flat_map}
 use Rattle.std.proofs.lemmas.List.{append-nil, length-append, get_or_append_left}
@@ -16,10 +16,13 @@ use Rattle.log_format.specs.declared.Line.TheVariants as lines
 use Rattle.cluster_model.specs.Moments.{Faults}
 use Rattle.cluster_model.specs.Turns.{Slot}
 use Rattle.cluster_model.specs.Run.{failed_of}
-use Rattle.replica.specs.declared.Replica.{Replica as Seat}
+use Rattle.replica.specs.declared.Replica.{Replica as Runner}
 use Rattle.replica.specs.Replicas.{IsOver}
 use Rattle.replica.proofs.Overs.{over_begun}
-use Rattle.cluster.specs.Positions.{ChangesAt, WatchedAt, AreLater}
+use Rattle.seats.specs.declared.Seat.{Seat}
+use Rattle.seats.specs.declared.Seat.TheVariants.{Live as LiveSeat, Down as DownSeat}
+use Rattle.seats.specs.Positions.{ChangesAt, WatchedAt, AreLater}
+use Rattle.seats.proofs.Seats.{is_there}
 use Rattle.cluster.specs.Turned.{AreStruckBy, FailAs, points, points_of, round_slots}
 use Rattle.cluster.specs.Begun.{SeatBegins, begin_line, begin_lines, BeginsAt, Begun}
 use Rattle.cluster.proofs.ListFacts.{map-append, flat_map-append}
@@ -37,29 +40,32 @@ tells_one true r = refl
 
 module _ {X : Type 0} (state : X → Server) (limits : Limits) where
   -- a replica that begins is over as many entries as the array
-  over_begins : 1 ≤ limits.n → (b : Bool) (k : Seat) (s : Option X) (t : Option ConfTable) →
-      SeatBegins state limits b (Some k) s t → IsOver limits.n k
+  over_begins : 1 ≤ limits.n → (b : Bool) (k : Runner) (s : Option X) (t : Option ConfTable) →
+      SeatBegins state limits b (LiveSeat k) s t → IsOver limits.n k
   over_begins some true k s t h = absurd h
   over_begins some false k s t h = subst (IsOver limits.n) (sym h.0) (over_begun limits.n some)
 
   pub begins_down : (r : ℕ) (servers servers' : List X) (tables tables' : List ConfTable)
-      (seats seats' : List (Option Seat)) (met met' : List FaultPoint) (ls ls' : List Line)
-      (result : Result Seat WrapErr) (e : WrapErr) → e ≡ errors.Down → r < length servers →
-      WatchedAt {T = Seat} state (slice_get servers r) (slice_get servers' r) (Err e) →
-      ChangesAt r servers servers' → ChangesAt r tables tables' → seats' ≡ seats ++ None ∷ [] →
+      (seats seats' : List Seat) (met met' : List FaultPoint) (ls ls' : List Line)
+      (result : Result Runner WrapErr) (e : WrapErr) → e ≡ errors.Down → r < length servers → r < length tables →
+      WatchedAt {T = Runner} state (slice_get servers r) (slice_get servers' r) (Err e) →
+      ChangesAt r servers servers' → ChangesAt r tables tables' → seats' ≡ seats ++ DownSeat ∷ [] →
       ls' ≡ ls ++ lines.Down r ∷ [] → met' ≡ met ++ record { event = 0; stage = 0; replica = r } ∷ [] →
       BeginsAt state limits r servers servers' tables tables' seats seats' met met' ls ls'
-  begins_down r servers servers' tables tables' seats seats' met met' ls ls' result e down within watched sv tb seat line
-      point =
-      let h : WatchedAt {T = Seat} state (slice_get servers r) (slice_get servers' r) (Err errors.Down) =
-      subst (λ e. WatchedAt {T = Seat} state (slice_get servers r) (slice_get servers' r) (Err e)) down watched in
+  begins_down r servers servers' tables tables' seats seats' met met' ls ls' result e down within in_table watched sv tb
+      seat line point =
+      let h : WatchedAt {T = Runner} state (slice_get servers r) (slice_get servers' r) (Err errors.Down) =
+      subst (λ e. WatchedAt {T = Runner} state (slice_get servers r) (slice_get servers' r) (Err e)) down watched in
       record {
         fault = true;
-        seat = None;
+        seat = DownSeat;
         seats_are = seat;
         met_are = point;
         lines_are = line;
-        begins = tt;
+        begins = (
+          is_there servers' r (let size = sv.size in omega (arith, within, size)),
+          is_there tables' r (let size = tb.size in omega (arith, in_table, size)),
+        );
         servers_change = sv;
         tables_change = tb;
         struck = struck_down state servers servers' r within sv (Err errors.Down) h h.watched.limits h.watched.faults.1;
@@ -80,7 +86,7 @@ module _ {X : Type 0} (state : X → Server) (limits : Limits) where
     said = λ faults f. refl;
   }
 
-  pub begun_first : (xs ys : List X) (tables : List ConfTable) (seats : List (Option Seat)) (met : List FaultPoint)
+  pub begun_first : (xs ys : List X) (tables : List ConfTable) (seats : List Seat) (met : List FaultPoint)
       (ls : List Line) → ys ≡ xs → seats ≡ [] → met ≡ [] → ls ≡ [] →
       Begun state limits 0 xs ys tables seats met ls
   begun_first xs ys tables seats met ls same no_seats no_met no_lines =
@@ -89,7 +95,7 @@ module _ {X : Type 0} (state : X → Server) (limits : Limits) where
   pub later_first : (n : ℕ) (xs ys : List X) → ys ≡ xs → AreLater state n xs ys
   later_first n xs ys same = rw same (later_none state n xs)
 
-  pub begun_more : 1 ≤ limits.n → (r : ℕ) (xs ys zs : List X) (ta tb : List ConfTable) (sa sb : List (Option Seat))
+  pub begun_more : 1 ≤ limits.n → (r : ℕ) (xs ys zs : List X) (ta tb : List ConfTable) (sa sb : List Seat)
       (ma mb : List FaultPoint) (la lb : List Line) → Begun state limits r xs ys ta sa ma la →
       BeginsAt state limits r ys zs ta tb sa sb ma mb la lb → Begun state limits (r + 1) xs zs tb sb mb lb
   begun_more some r xs ys zs ta tb sa sb ma mb la lb h b =
@@ -128,20 +134,20 @@ module _ {X : Type 0} (state : X → Server) (limits : Limits) where
             (struck_then state la (begin_line b.fault r) xs ys zs h.size b.servers_change.size h.struck b.struck);
         size = b.servers_change.size ∙ h.size;
         begins = λ faults f k low. elim (one_or_not k r) as (λ _. SeatBegins state limits (faults 0 k)
-            (slice_index_or sb k None) (slice_get zs k) (slice_get tb k)) [
+            (slice_index_or sb k DownSeat) (slice_get zs k) (slice_get tb k)) [
               | inl is ↦
-                  let seam : slice_index_or (sa ++ b.seat ∷ []) (length sa) None ≡ b.seat =
-                  get_or-append_seam sa b.seat [] None in
-                  let seat_is : slice_index_or sb r None ≡ b.seat = ap (λ ss. slice_index_or ss r None) b.seats_are
-                  ∙ ap (λ j. slice_index_or (sa ++ b.seat ∷ []) j None) (sym h.many) ∙ seam in
-                  subst (λ k. SeatBegins state limits (faults 0 k) (slice_index_or sb k None) (slice_get zs k)
+                  let seam : slice_index_or (sa ++ b.seat ∷ []) (length sa) DownSeat ≡ b.seat =
+                  get_or-append_seam sa b.seat [] DownSeat in
+                  let seat_is : slice_index_or sb r DownSeat ≡ b.seat = ap (λ ss. slice_index_or ss r DownSeat) b.seats_are
+                  ∙ ap (λ j. slice_index_or (sa ++ b.seat ∷ []) j DownSeat) (sym h.many) ∙ seam in
+                  subst (λ k. SeatBegins state limits (faults 0 k) (slice_index_or sb k DownSeat) (slice_get zs k)
                   (slice_get tb k)) (sym is)
                   (rw (here faults f, seat_is) b.begins)
               | inr ne ↦
                   let under : k < r = omega arith in
-                  let seat_is : slice_index_or sb k None ≡ slice_index_or sa k None =
-                  ap (λ ss. slice_index_or ss k None) b.seats_are
-                  ∙ get_or_append_left sa (b.seat ∷ []) None k (let z = h.many in omega arith) in
+                  let seat_is : slice_index_or sb k DownSeat ≡ slice_index_or sa k DownSeat =
+                  ap (λ ss. slice_index_or ss k DownSeat) b.seats_are
+                  ∙ get_or_append_left sa (b.seat ∷ []) DownSeat k (let z = h.many in omega arith) in
                   rw (seat_is, b.servers_change.others k ne, b.tables_change.others k ne)
                   (h.begins faults (first faults f) k under)
             ];

@@ -1,12 +1,11 @@
 -- The start: what the model makes of it, and that cluster and bench stand for that.
-use Rattle.std.proofs.Common.{◌≡◌, ◌≢◌, ℕ, zero, suc, ◌+◌, ◌*◌, ◌<◌, ◌≤◌, Bool, true, false, cond, List, [], ◌∷◌, ◌++◌, length, slice_get, Option, Some, None, inl, inr, refl, sym, ◌∙◌, ap, subst, arith}
+use Rattle.std.proofs.Common.{◌≡◌, ◌≢◌, ℕ, zero, suc, ◌+◌, ◌*◌, ◌<◌, ◌≤◌, Bool, true, false, cond, List, [], ◌∷◌, ◌++◌, length, slice_get, Option, None, inl, inr, refl, sym, ◌∙◌, ap, subst, arith}
 use Rattle.std.specs.Prelude.{slice_index_or, option_map, replicate}
 use Rattle.std.specs.List.{All}
 use Rattle.std.proofs.lemmas.List.{append-nil, length-set, get_or-set_same, get_or-set_other, get_or-replicate, length-replicate}
 use Rattle.std.proofs.lemmas.Option.{slice_get_within}
 use Rattle.nfs2_types.specs.declared.Limits.{Limits}
 use Rattle.nfs2_types.specs.declared.Word.TheVariants as words
-use Rattle.abs_model.specs.declared.Entry.{Entry}
 use Rattle.abs_model.specs.Array.{empty_array}
 use Rattle.server_trait.specs.Tree.{Server}
 use Rattle.server_trait.specs.declared.ConfTable.{ConfTable}
@@ -23,10 +22,14 @@ use Rattle.cluster_model.proofs.Lines.{Chain, same_grows, chain_moments, start_f
 use Rattle.cluster_model.proofs.Voted.{Always-moments}
 use Rattle.service_laws.specs.Served.{IsSized, service}
 use Rattle.partition_tree.specs.Digests.{IsRoot}
-use Rattle.replica.specs.declared.Replica.{Replica as Seat}
+use Rattle.replica.specs.declared.Replica.{Replica as Runner}
 use Rattle.replica.specs.Replicas.{digests_of}
+use Rattle.recovery.specs.Rebuilt.{Rebuilt}
+use Rattle.seats.specs.declared.Seat.{Seat}
+use Rattle.seats.specs.declared.Seat.TheVariants.{Live as LiveSeat, Rebuilding as RebuildingSeat, Down as DownSeat}
 use Rattle.reply_vote.specs.Ballots.{word_at}
-use Rattle.cluster.specs.Positions.{StandsAt}
+use Rattle.seats.specs.Positions.{StandsAt}
+use Rattle.seats.specs.Seats.{HasArray}
 use Rattle.cluster.specs.OverBench.{Kept, IsKeptBy, IsSeat, IsState, HaveArrays}
 use Rattle.cluster.specs.Steps.{Starts}
 use Rattle.cluster.specs.Turned.{FailAs, round_slots}
@@ -197,26 +200,35 @@ pub record IsNew (limits : Limits) (c : Kept) : Type 0 where
   pub events : c.events ≡ 0
 
 module _ {X : Type 0} (state : X → Server) (limits : Limits) (sized : IsSized limits) where
-  begins_seat : (b : Bool) (seat : Option Seat) (s : Option X) (t : Option ConfTable) (c : Condition) →
+  begins_seat : (b : Bool) (seat : Seat) (s : Option X) (t : Option ConfTable) (c : Condition) →
       SeatBegins state limits b seat s t →
       c ≡ cond b Down (Live (begins (service limits) 0 (service limits).empty)) → IsSeat state limits seat s t c
-  begins_seat true None s t c h e = e
-  begins_seat true (Some k) s t c h e = absurd h
-  begins_seat false None s t c h e = absurd h
-  begins_seat false (Some k) s t c h e = record {
+  begins_seat true DownSeat s t c h e = e
+  begins_seat true (LiveSeat k) s t c h e = absurd h
+  begins_seat true (RebuildingSeat b) s t c h e = absurd h
+  begins_seat false DownSeat s t c h e = absurd h
+  begins_seat false (RebuildingSeat b) s t c h e = absurd h
+  begins_seat false (LiveSeat k) s t c h e = record {
     live = begins (service limits) 0 (service limits).empty;
     is_live = e;
     stands = subst (StandsAt state limits s t) (sym (service_begins limits).1) h.1;
-    keeps = subst (λ (j : Seat). IsKeptBy j (begins (service limits) 0 (service limits).empty)) (sym h.0)
+    keeps = subst (λ (j : Runner). IsKeptBy j (begins (service limits) 0 (service limits).empty)) (sym h.0)
         (keeps_begun limits);
   }
 
-  array_seat : (b : Bool) (seat : Option Seat) (k : Seat) (s : Option X) (t : Option ConfTable) → seat ≡ Some k →
-      SeatBegins state limits b seat s t → StandsAt state limits s t (empty_array limits.n)
-  array_seat true None k s t e h = absurd (cc)
-  array_seat true (Some j) k s t e h = absurd h
-  array_seat false None k s t e h = absurd h
-  array_seat false (Some j) k s t e h = h.1
+  none_begins : (f : Bool) (b : Rebuilt) (s : Option X) (t : Option ConfTable) →
+      SeatBegins state limits f (RebuildingSeat b) s t → ⊥
+  none_begins true b s t h = h
+  none_begins false b s t h = h
+
+  array_seat : (b : Bool) (seat : Seat) (s : Option X) (t : Option ConfTable) → SeatBegins state limits b seat s t →
+      HasArray state limits seat s t
+  array_seat true DownSeat s t h = h
+  array_seat true (LiveSeat k) s t h = absurd h
+  array_seat true (RebuildingSeat b) s t h = absurd h
+  array_seat false DownSeat s t h = absurd h
+  array_seat false (LiveSeat k) s t h = (empty_array limits.n, h.1)
+  array_seat false (RebuildingSeat b) s t h = absurd h
 
   module _ (c : Kept) (new : IsNew limits c) (servers servers' : List X) (tables' : List ConfTable) (met : List FaultPoint)
       (ls : List Line) (h : Begun state limits (3 * limits.f + 1) servers servers' tables' c.seats met ls) where
@@ -248,10 +260,17 @@ module _ {X : Type 0} (state : X → Server) (limits : Limits) (sized : IsSized 
       root_voters = new.root_voters ∙ sym h.many;
       conditions = λ r l. (
           let low : r < 3 * limits.f + 1 = (let e = h.many in omega arith) in
-          subst (λ l. IsSeat state l (slice_index_or c.seats r None) (slice_get servers' r) (slice_get tables' r)
+          subst (λ l. IsSeat state l (slice_index_or c.seats r DownSeat) (slice_get servers' r) (slice_get tables' r)
           (replica end.state r).condition) (sym new.limits_are)
-          (begins_seat (faults_in met 0 0 r) (slice_index_or c.seats r None) (slice_get servers' r) (slice_get tables' r)
+          (begins_seat (faults_in met 0 0 r) (slice_index_or c.seats r DownSeat) (slice_get servers' r) (slice_get tables' r)
           (replica end.state r).condition (h.begins (faults_in met 0) as_points r low) (started.before r low low)));
+      aimed = λ r b at. (
+          let is : slice_index_or c.seats r DownSeat ≡ RebuildingSeat b = read_is c.seats r (RebuildingSeat b) DownSeat at in
+          let low : r < 3 * limits.f + 1 =
+          (let w = slice_get_within c.seats r (RebuildingSeat b) at in let e = h.many in omega arith) in
+          absurd (none_begins (faults_in met 0 0 r) b (slice_get servers' r) (slice_get tables' r)
+          (subst (λ o. SeatBegins state limits (faults_in met 0 0 r) o (slice_get servers' r) (slice_get tables' r)) is
+          (h.begins (faults_in met 0) as_points r low))));
       words = λ r p l. (
           let low : r < 3 * limits.f + 1 = (let e = h.many in omega arith) in
           ap (lookup p) (started.words r low)
@@ -262,16 +281,14 @@ module _ {X : Type 0} (state : X → Server) (limits : Limits) (sized : IsSized 
     }
 
     pub begun_arrays : HaveArrays state c servers' tables'
-    begun_arrays r k e =
-        let at : slice_index_or c.seats r None ≡ Some k = read_is c.seats r (Some k) None e in
+    begun_arrays r seat e =
+        let at : slice_index_or c.seats r DownSeat ≡ seat = read_is c.seats r seat DownSeat e in
         let low : r < 3 * limits.f + 1 =
-        (let w = slice_get_within c.seats r (Some k) e in let z = h.many in omega arith) in
-        subst (λ l. (A : List Entry) × StandsAt state l (slice_get servers' r) (slice_get tables' r) A)
-        (sym new.limits_are) (
-          empty_array limits.n,
-          array_seat (faults_in met 0 0 r) (slice_index_or c.seats r None) k (slice_get servers' r)
-              (slice_get tables' r) at (h.begins (faults_in met 0) as_points r low),
-        )
+        (let w = slice_get_within c.seats r seat e in let z = h.many in omega arith) in
+        subst (λ l. HasArray state l seat (slice_get servers' r) (slice_get tables' r)) (sym new.limits_are)
+        (subst (λ x. HasArray state limits x (slice_get servers' r) (slice_get tables' r)) at
+        (array_seat (faults_in met 0 0 r) (slice_index_or c.seats r DownSeat) (slice_get servers' r)
+        (slice_get tables' r) (h.begins (faults_in met 0) as_points r low)))
 
     pub begun_starts : Starts state limits c servers servers' tables' met ls
     unfolding service

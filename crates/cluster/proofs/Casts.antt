@@ -21,9 +21,10 @@ use Rattle.cluster_model.specs.Moments.{Moment, adds_word, adds_root, decision_l
 use Rattle.cluster_model.specs.Turns.{takes_checkpoint, ran, skipped, checked, is_checkpoint, casts_root_of}
 use Rattle.service_laws.specs.Served.{IsSized, service}
 use Rattle.partition_tree.specs.Digests.{IsRoot}
-use Rattle.replica.specs.declared.Replica.{Replica as Seat}
+use Rattle.replica.specs.declared.Replica.{Replica as Runner}
 use Rattle.replica.specs.declared.Cast.{Cast}
 use Rattle.replica.specs.Replicas.{IsOver, IsRootWord, passed, checked as keeps_checked, skipped as keeps_skipped}
+use Rattle.seats.specs.declared.Seat.{Seat}
 use Rattle.reply_vote.specs.Ballots.{Ballot}
 use Rattle.conf_map.specs.Stands.{AreWithin}
 use Rattle.cluster.specs.OverBench.{Kept, IsKeptBy, IsState, is_size}
@@ -39,10 +40,10 @@ pub record IsService (S : Service) (limits : Limits) : Type 0 where
   pub next : (a : List Entry) (q : Request) → S.next a q ≡ (answer a limits q.time q.bytes).array
   pub word : (a : List Entry) (q : Request) → S.word a q ≡ (answer a limits q.time q.bytes).word
   -- a replica keeps what the model's has, after a request and the checkpoint that is due
-  pub keeps : (l : Running) (k : Seat) (q : Request) → IsKeptBy k l → IsOver limits.n k → Valid limits l.array →
+  pub keeps : (l : Running) (k : Runner) (q : Request) → IsKeptBy k l → IsOver limits.n k → Valid limits l.array →
       IsKeptBy (passed limits l.array (answer l.array limits q.time q.bytes) k) (checked S (ran S q l))
   -- nor where a place is passed with no request
-  pub keeps_over : (l : Running) (k : Seat) → IsKeptBy k l → IsOver limits.n k → Valid limits l.array →
+  pub keeps_over : (l : Running) (k : Runner) → IsKeptBy k l → IsOver limits.n k → Valid limits l.array →
       IsKeptBy (keeps_checked limits l.array (keeps_skipped k)) (checked S (skipped l))
   pub root : (ds : List (List ℕ)) (d : List ℕ) → length ds ≡ limits.n → IsRoot ds d → d ≡ root_of S ds
 
@@ -91,7 +92,7 @@ kept_is c new ballots' decisions' h v d = λ i. record {
   events = h.events i;
 }
 
-rooted_is : (c new : Kept) (seats' : List (Option Seat)) (roots' : List Ballot) (p : ℕ) (d : List ℕ) →
+rooted_is : (c new : Kept) (seats' : List Seat) (roots' : List Ballot) (p : ℕ) (d : List ℕ) →
     SameButRoots c new → new.seats ≡ seats' → new.roots ≡ roots' → new.stable ≡ p → new.root ≡ d →
     new ≡ record c { seats = seats'; roots = roots'; stable = p; root = d }
 rooted_is c new seats' roots' p d h a b e f = λ i. record {
@@ -262,13 +263,13 @@ module _ {X : Type 0} (state : X → Server) where
       × (k.lines ≡ m.lines ++ lines.Stable p d ∷ [])) (sym is) (
         subst (λ (v : Kept). IsState state v servers tables (becomes_stable p d n).state)
             (sym (rooted_is c new new.seats new.roots p d same refl refl stable root))
-            (state_stable state (record c { roots = mid }) new.seats new.roots servers tables n p d h' seen drop),
+            (state_stable state (record c { roots = mid }) new.seats new.roots servers tables n p d h' high seen drop),
         refl,
       )
 
   -- casting the root word of a replica that took the checkpoint due, or none
   pub state_rooted : (S : Service) (c new : Kept) (servers : List X) (tables : List ConfTable) (r p : ℕ)
-      (o : Option (List ℕ)) (ls ls' : List Line) (l : Running) (k : Seat) → IsService S c.limits → r < length c.seats →
+      (o : Option (List ℕ)) (ls ls' : List Line) (l : Running) (k : Runner) → IsService S c.limits → r < length c.seats →
       IsKeptBy k l → length k.tree ≡ c.limits.n → p ≡ k.place → IsRootWord c.limits k o →
       (h : RootedIf r p o c new ls ls') → (m : Moment) → IsState state c servers tables m.state →
       IsState state new servers tables (casts_root_of S r l m).state

@@ -21,8 +21,8 @@ use Rattle.service_laws.specs.Served.{levels_of, IsSized, service}
 use Rattle.service_laws.proofs.Served.{service_orderly}
 use Rattle.partition_tree.specs.Digests.{numbers, digest_at, IsRoot, IsTreeSize}
 use Rattle.cow_checkpoint.specs.Store.{Store, fresh, saves, saves_newest, notices, all_noticed}
-use Rattle.replica.specs.declared.Replica.{Replica as Seat}
-use Rattle.replica.specs.Replicas.{IsOver, digests_from, digests_of, begun, refreshed, told_of, takes_checkpoint, checked, passed, is_due, harm, skipped}
+use Rattle.replica.specs.declared.Replica.{Replica as Runner}
+use Rattle.replica.specs.Replicas.{IsOver, digests_from, digests_of, begun_at, begun, refreshed, told_of, takes_checkpoint, checked, passed, is_due, harm, skipped}
 use Rattle.replica.proofs.Told.{answer_within}
 use Rattle.replica.proofs.Overs.{over_begun, over_told, told-all_noticed}
 use Rattle.cluster.specs.OverBench.{IsKeptBy, is_size}
@@ -128,7 +128,7 @@ holds_same limits A (i ∷ told) s low =
     saves_one limits A i told (All-head (λ i. i < length A) i told low) s.holds
     ∙ holds_same limits A told (notices A i s) (All-tail (λ i. i < length A) i told low)
 
-module _ (limits : Limits) (A : List Entry) (k : Seat) (l : Running) (h : IsKeptBy k l) (same : l.array ≡ A)
+module _ (limits : Limits) (A : List Entry) (k : Runner) (l : Running) (h : IsKeptBy k l) (same : l.array ≡ A)
     (low : All (λ i. i < length A) k.store.told) where
   digests_same : turns.refreshed (service limits) l.array l.told l.believed ≡ refreshed A k.store.told k.tree
   digests_same = ap (λ a. turns.refreshed (service limits) a l.told l.believed) same
@@ -159,7 +159,7 @@ module _ (limits : Limits) (A : List Entry) (k : Seat) (l : Running) (h : IsKept
       by false true e = absurd (cc)
 
 -- a request that is run
-keeps_ran : (limits : Limits) (l : Running) (k : Seat) (q : Request) → IsKeptBy k l → Valid limits l.array →
+keeps_ran : (limits : Limits) (l : Running) (k : Runner) (q : Request) → IsKeptBy k l → Valid limits l.array →
     IsKeptBy (told_of l.array (answer l.array limits q.time q.bytes).told k) (turns.ran (service limits) q l)
 unfolding service
 keeps_ran limits l k q h valid =
@@ -181,7 +181,7 @@ array_is : (limits : Limits) (l : Running) (q : Request) →
 unfolding service
 array_is limits l q = refl
 
-pub keeps_passed : (limits : Limits) (l : Running) (k : Seat) (q : Request) → IsKeptBy k l → IsOver limits.n k →
+pub keeps_passed : (limits : Limits) (l : Running) (k : Runner) (q : Request) → IsKeptBy k l → IsOver limits.n k →
     Valid limits l.array →
     IsKeptBy (passed limits l.array (answer l.array limits q.time q.bytes) k)
     (turns.checked (service limits) (turns.ran (service limits) q l))
@@ -200,7 +200,7 @@ keeps_passed limits l k q h over valid =
 -- HARM
 
 -- what is kept of a replica is kept of a harmed one
-pub keeps_harmed : (l : Running) (k : Seat) → IsKeptBy k l → IsKeptBy (harm k) (turns.harm l)
+pub keeps_harmed : (l : Running) (k : Runner) → IsKeptBy k l → IsKeptBy (harm k) (turns.harm l)
 keeps_harmed l k h = record {
   place = h.place;
   believed = h.believed;
@@ -211,7 +211,7 @@ keeps_harmed l k h = record {
 }
 
 -- its array is not among what is kept
-pub keeps_wiped : (S : Service) (l : Running) (k : Seat) → IsKeptBy k l → IsKeptBy (harm k) (turns.harm (wiped S l))
+pub keeps_wiped : (S : Service) (l : Running) (k : Runner) → IsKeptBy k l → IsKeptBy (harm k) (turns.harm (wiped S l))
 keeps_wiped S l k h = record {
   place = h.place;
   believed = h.believed;
@@ -221,7 +221,7 @@ keeps_wiped S l k h = record {
   harmed = refl;
 }
 
-keeps_skipped : (l : Running) (k : Seat) → IsKeptBy k l → IsKeptBy (skipped k) (turns.skipped l)
+keeps_skipped : (l : Running) (k : Runner) → IsKeptBy k l → IsKeptBy (skipped k) (turns.skipped l)
 keeps_skipped l k h = record {
   place = ap suc h.place;
   believed = h.believed;
@@ -232,7 +232,7 @@ keeps_skipped l k h = record {
 }
 
 -- a place that is passed with no request
-pub keeps_passed_over : (limits : Limits) (l : Running) (k : Seat) → IsKeptBy k l → IsOver limits.n k →
+pub keeps_passed_over : (limits : Limits) (l : Running) (k : Runner) → IsKeptBy k l → IsOver limits.n k →
     Valid limits l.array →
     IsKeptBy (checked limits l.array (skipped k)) (turns.checked (service limits) (turns.skipped l))
 keeps_passed_over limits l k h over valid =
@@ -241,20 +241,28 @@ keeps_passed_over limits l k h over valid =
 
 -- THE BEGINNING
 
-begin_digests : (limits : Limits) →
-    trees.digests (service limits) (service limits).empty ≡ digests_of (empty_array limits.n)
-unfolding service
-begin_digests limits = digests_from_same limits 0 (empty_array limits.n)
+digests_are : (limits : Limits) (A : List Entry) → trees.digests (service limits) A ≡ digests_of A
+digests_are limits A = digests_from_same limits 0 A
 
-pub keeps_begun : (limits : Limits) → IsKeptBy (begun limits.n) (turns.begins (service limits) 0 (service limits).empty)
-keeps_begun limits = record {
+pub keeps_begun_at : (limits : Limits) (place : ℕ) (A : List Entry) →
+    IsKeptBy (begun_at place (digests_of A)) (turns.begins (service limits) place A)
+keeps_begun_at limits place A = record {
   place = refl;
-  believed = begin_digests limits;
+  believed = digests_are limits A;
   told = refl;
-  holds = λ i. fresh 0 (begin_digests limits i) ∷ [];
+  holds = λ i. fresh place (digests_are limits A i) ∷ [];
   lies = refl;
   harmed = refl;
 }
+
+pub keeps_begun : (limits : Limits) → IsKeptBy (begun limits.n) (turns.begins (service limits) 0 (service limits).empty)
+unfolding service
+keeps_begun limits = keeps_begun_at limits 0 (empty_array limits.n)
+
+begin_digests : (limits : Limits) →
+    trees.digests (service limits) (service limits).empty ≡ digests_of (empty_array limits.n)
+unfolding service
+begin_digests limits = digests_are limits (empty_array limits.n)
 
 pub empty_root_is : (limits : Limits) → IsSized limits → (d : List ℕ) → IsRoot (digests_of (empty_array limits.n)) d →
     d ≡ trees.root (service limits) (service limits).empty

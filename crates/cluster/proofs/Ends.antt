@@ -1,5 +1,5 @@
 -- The record of the end, and that of a request.
-use Rattle.std.proofs.Common.{◌≡◌, ℕ, zero, suc, ◌+◌, ◌*◌, ◌<◌, List, [], ◌∷◌, ◌++◌, map, take, length, slice_get, Option, Some, None, refl, sym, ◌∙◌, ap, subst, arith}
+use Rattle.std.proofs.Common.{◌≡◌, ℕ, zero, suc, ◌+◌, ◌*◌, ◌<◌, List, [], ◌∷◌, ◌++◌, map, take, length, slice_get, Some, refl, sym, ◌∙◌, ap, subst, arith}
 use Rattle.std.specs.Prelude.{slice_index_or, Result, Ok, Err, OnOk}
 use Rattle.std.specs.List.{All, flat_map}
 use Rattle.std.proofs.lemmas.List.{append-nil, append_assoc}
@@ -19,7 +19,8 @@ use Rattle.cluster_model.specs.State.{Replica}
 use Rattle.cluster_model.specs.Moments.{Moment, gone, replica, print}
 use Rattle.cluster_model.specs.Step.{at_line, asks, prints_ends}
 use Rattle.cluster_model.specs.Run.{failed_of}
-use Rattle.replica.specs.declared.Replica.{Replica as Seat}
+use Rattle.seats.specs.declared.Seat.{Seat}
+use Rattle.seats.specs.declared.Seat.TheVariants.{Live as LiveSeat, Rebuilding as RebuildingSeat, Down as DownSeat}
 use Rattle.cluster.specs.OverBench.{Kept, IsSeat, IsState, HaveArrays}
 use Rattle.cluster.specs.Went.{Went, end_line, end_lines}
 use Rattle.cluster.proofs.ListFacts.{read_is}
@@ -27,7 +28,7 @@ use Rattle.cluster.proofs.Struck.{struck_none}
 use Rattle.cluster.proofs.StepClauses.{step_follows}
 
 -- the lines of one replica more
-pub end_more : (k r : ℕ) (xs : List (Option Seat)) (x : Option Seat) → slice_get xs r ≡ Some x →
+pub end_more : (k r : ℕ) (xs : List Seat) (x : Seat) → slice_get xs r ≡ Some x →
     end_lines k (take (suc r) xs) ≡ end_lines k (take r xs) ++ end_line (k + r) x ∷ []
 end_more k r [] x e = absurd (cc)
 end_more k zero (y ∷ xs) x e =
@@ -40,8 +41,8 @@ end_more k (suc r) (y ∷ xs) x e =
     ∙ ap (λ j. end_line k y ∷ (end_lines (suc k) (take r xs) ++ end_line j x ∷ [])) z
 
 -- what the model prints of replicas whose conditions are told so by these seats
-prints_are : (r : ℕ) (xs : List Replica) (seats : List (Option Seat)) (m : Moment) → length xs ≡ length seats →
-    ((k : ℕ) (x : Replica) (seat : Option Seat) → slice_get xs k ≡ Some x → slice_get seats k ≡ Some seat → (j : ℕ) →
+prints_are : (r : ℕ) (xs : List Replica) (seats : List Seat) (m : Moment) → length xs ≡ length seats →
+    ((k : ℕ) (x : Replica) (seat : Seat) → slice_get xs k ≡ Some x → slice_get seats k ≡ Some seat → (j : ℕ) →
     at_line j x.condition ≡ end_line j seat) →
     prints_ends r xs m ≡ record m { lines = m.lines ++ end_lines r seats }
 prints_are r [] [] m long h = ap (λ ls. let n : Moment = record m { lines = ls } in n) (sym (append-nil m.lines))
@@ -58,25 +59,27 @@ prints_are r (x ∷ xs) (s ∷ seats) m long h =
 
 module _ {X : Type 0} (state : X → Server) where
   told : (c : Kept) (servers : List X) (tables : List ConfTable) (m : Moment) → IsState state c servers tables m.state →
-      (k : ℕ) (x : Replica) (seat : Option Seat) → slice_get m.state.replicas k ≡ Some x →
+      (k : ℕ) (x : Replica) (seat : Seat) → slice_get m.state.replicas k ≡ Some x →
       slice_get c.seats k ≡ Some seat → (j : ℕ) → at_line j x.condition ≡ end_line j seat
   told c servers tables m s k x seat at_x at_seat j =
       let within : k < length c.seats = slice_get_within c.seats k seat at_seat in
       let is : replica m.state k ≡ x = read_is m.state.replicas k x gone at_x in
-      let seat_is : slice_index_or c.seats k None ≡ seat = read_is c.seats k seat None at_seat in
+      let seat_is : slice_index_or c.seats k DownSeat ≡ seat = read_is c.seats k seat DownSeat at_seat in
       by seat (subst (λ (y : Replica). IsSeat state c.limits seat (slice_get servers k) (slice_get tables k) y.condition) is
       (subst (λ o. IsSeat state c.limits o (slice_get servers k) (slice_get tables k) (replica m.state k).condition)
       seat_is (s.conditions k within)))
     where
-      by : (o : Option Seat) → IsSeat state c.limits o (slice_get servers k) (slice_get tables k) x.condition →
+      by : (o : Seat) → IsSeat state c.limits o (slice_get servers k) (slice_get tables k) x.condition →
           at_line j x.condition ≡ end_line j o
-      by None h = ap (at_line j) h
-      by (Some n) h = ap (at_line j) h.is_live ∙ ap (lines.At j) h.keeps.place
+      by DownSeat h = ap (at_line j) h
+      by (RebuildingSeat b) h = ap (at_line j) h.is_rebuilding
+      by (LiveSeat n) h = ap (at_line j) h.is_live ∙ ap (lines.At j) h.keeps.place
 
-  no_failures : (r : ℕ) (seats : List (Option Seat)) → flat_map failed_of (end_lines r seats) ≡ []
+  no_failures : (r : ℕ) (seats : List Seat) → flat_map failed_of (end_lines r seats) ≡ []
   no_failures r [] = refl
-  no_failures r (None ∷ seats) = no_failures (suc r) seats
-  no_failures r (Some k ∷ seats) = no_failures (suc r) seats
+  no_failures r (DownSeat ∷ seats) = no_failures (suc r) seats
+  no_failures r (RebuildingSeat b ∷ seats) = no_failures (suc r) seats
+  no_failures r (LiveSeat k ∷ seats) = no_failures (suc r) seats
 
   -- END
   pub went_end : (c : Kept) (servers : List X) (tables : List ConfTable) (met : List FaultPoint) (la lb : List Line) →
@@ -92,9 +95,9 @@ module _ {X : Type 0} (state : X → Server) where
         limits = refl;
         requests = sym (append-nil c.requests);
         events = refl;
-        moves = λ m s. (
+        moves = λ m good s. (
             let printed = prints_are 0 m.state.replicas c.seats m s.size (told c servers tables m s) in
-            step_follows state c c servers servers tables tables met End lb m s (λ j spare e. absurd (cc)) refl
+            step_follows state c c servers servers tables tables met End lb m s (λ j spare e. absurd (cc)) (refl, refl)
             (subst (λ (n : Moment). IsState state c servers tables n.state × (n.lines ≡ m.lines ++ lb)) (sym printed)
             (s, ap (λ ls. m.lines ++ ls) (sym lines_is)))
             (struck_none state lb servers quiet));
@@ -120,6 +123,7 @@ module _ {X : Type 0} (state : X → Server) where
     voters = s.voters;
     root_voters = s.root_voters;
     conditions = s.conditions;
+    aimed = s.aimed;
     words = s.words;
     roots = s.roots;
   }
@@ -137,8 +141,8 @@ module _ {X : Type 0} (state : X → Server) where
         limits = ap (λ (k : Kept). k.limits) new_is;
         requests = ap (λ (k : Kept). k.requests) new_is;
         events = ap (λ (k : Kept). k.events) new_is;
-        moves = λ m s. step_follows state c new servers servers tables tables met (Ask client time bytes) ls m s
-            (λ j spare e. absurd (cc)) refl (
+        moves = λ m good s. step_follows state c new servers servers tables tables met (Ask client time bytes) ls m s
+            (λ j spare e. absurd (cc)) (refl, refl) (
               subst (λ (k : Kept). IsState state k servers tables (asks q m).state) (sym new_is)
                   (state_asks c q servers tables m s),
               sym (append-nil m.lines) ∙ ap (λ l. m.lines ++ l) (sym no_lines),

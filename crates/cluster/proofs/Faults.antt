@@ -97,7 +97,7 @@ fails_as e (t ∷ ts) (b ∷ fs) long h =
 
 -- THE TURNS OF A RUNALL
 
-differ_append : (ts us : List Slot) → AllDiffer ts → AllDiffer us → All (λ (t : Slot). All (Differ t) us) ts →
+pub differ_append : (ts us : List Slot) → AllDiffer ts → AllDiffer us → All (λ (t : Slot). All (Differ t) us) ts →
     AllDiffer (ts ++ us)
 differ_append [] us h g apart = g
 differ_append (t ∷ ts) us h g apart =

@@ -1,5 +1,4 @@
 pub mod ListFacts
-pub mod Positions
 pub mod States
 pub mod RootStates
 pub mod Checkpoints
@@ -18,3 +17,17 @@ pub mod Beginning
 pub mod BeginClauses
 pub mod Harms
 pub mod Wipes
+pub mod Reboots
+pub mod FetchSlots
+pub mod Stages
+pub mod Leading
+pub mod EndFacts
+pub mod FetchEnds
+pub mod Given
+pub mod Collecting
+pub mod Asking
+pub mod Aims
+pub mod FetchMoments
+pub mod FetchSteps
+pub mod Offering
+pub mod Sources

@@ -14,10 +14,12 @@ use Rattle.server_trait.specs.declared.ConfTable.{ConfTable}
 use Rattle.server_trait.proofs.TreeLaws.{one_or_not}
 use Rattle.cluster_model.specs.State.{Condition, State, Replica, lookup, has, is_word, is_digest, says_root}
 use Rattle.cluster_model.specs.Moments.{Moment, gone, replica, put, adds_root, becomes_stable, sees_stable, drops_before, from_place, above, root_votes}
-use Rattle.replica.specs.declared.Replica.{Replica as Seat}
+use Rattle.seats.specs.declared.Seat.{Seat}
+use Rattle.seats.specs.declared.Seat.TheVariants.{Live as LiveSeat, Rebuilding as RebuildingSeat, Down as DownSeat}
 use Rattle.reply_vote.specs.Ballots.{Ballot, word_at, votes_for, Casts, Drops}
-use Rattle.cluster.specs.OverBench.{Kept, IsSeat, IsState}
-use Rattle.cluster.specs.Casting.{sees, SeatsSee}
+use Rattle.recovery.specs.Rebuilt.{Rebuilt}
+use Rattle.cluster.specs.OverBench.{Kept, IsAimed, IsSeat, IsState}
+use Rattle.cluster.specs.Casting.{seat_sees, SeatsSee}
 use Rattle.cluster.proofs.ListFacts.{read_is, count_same}
 use Rattle.cluster.proofs.States.{root_of}
 
@@ -64,17 +66,39 @@ sees_at p zero (x ∷ xs) = refl
 sees_at p (suc k) (x ∷ xs) = sees_at p k xs
 
 -- what is read where each live replica has forgotten
-seen_at : (p k : ℕ) (old new : List (Option Seat)) → SeatsSee p old new → k < length old →
-    slice_index_or new k None ≡ option_map (sees p) (slice_index_or old k None)
+seen_at : (p k : ℕ) (old new : List Seat) → SeatsSee p old new → k < length old →
+    slice_index_or new k DownSeat ≡ seat_sees p (slice_index_or old k DownSeat)
 seen_at p k old new h within =
-    read_is new k (option_map (sees p) (slice_index_or old k None)) None
-    (h.each k ∙ ap (option_map (option_map (sees p))) (slice_get-get_or old k None within))
+    read_is new k (seat_sees p (slice_index_or old k DownSeat)) DownSeat
+    (h.each k ∙ ap (option_map (seat_sees p)) (slice_get-get_or old k DownSeat within))
+
+-- what is being rebuilt forgets nothing
+rebuilding_seen : (p : ℕ) (o : Option Seat) (b : Rebuilt) → option_map (seat_sees p) o ≡ Some (RebuildingSeat b) →
+    o ≡ Some (RebuildingSeat b)
+rebuilding_seen p None b e = absurd (cc)
+rebuilding_seen p (Some (LiveSeat k)) b e = absurd (cc)
+rebuilding_seen p (Some (RebuildingSeat a)) b e = e
+rebuilding_seen p (Some DownSeat) b e = absurd (cc)
+
+-- what is aimed no higher than the stable place is aimed below a higher one
+aimed_low : (old new : ℕ) (d e : List ℕ) (b : Rebuilt) → old < new → IsAimed old d b → IsAimed new e b
+aimed_low old new d e b more h = record {
+  low = λ p is. (let l = h.low p is in omega arith);
+  root_is = λ is. (let l = h.low new is in absurd (omega arith));
+}
 
 module _ {X : Type 0} (state : X → Server) where
-  seat_sees : (limits : Limits) (p : ℕ) (seat : Option Seat) (s : Option X) (t : Option ConfTable) (c : Condition) →
-      IsSeat state limits seat s t c → IsSeat state limits (option_map (sees p) seat) s t (drops_before p c)
-  seat_sees limits p None s t c h = ap (drops_before p) h
-  seat_sees limits p (Some k) s t c h = record {
+  seat_seen : (limits : Limits) (p : ℕ) (seat : Seat) (s : Option X) (t : Option ConfTable) (c : Condition) →
+      IsSeat state limits seat s t c → IsSeat state limits (seat_sees p seat) s t (drops_before p c)
+  seat_seen limits p DownSeat s t c h = ap (drops_before p) h
+  seat_seen limits p (RebuildingSeat b) s t c h = record {
+    fetching = h.fetching;
+    is_rebuilding = ap (drops_before p) h.is_rebuilding;
+    stands = h.stands;
+    target = h.target;
+    fetched = h.fetched;
+  }
+  seat_seen limits p (LiveSeat k) s t c h = record {
     live = record h.live { holds = from_place p h.live.holds };
     is_live = ap (drops_before p) h.is_live;
     stands = h.stands;
@@ -109,13 +133,14 @@ module _ {X : Type 0} (state : X → Server) where
         size = size ∙ h.size;
         voters = h.voters;
         root_voters = cast.size ∙ h.root_voters;
-        conditions = λ k lk. elim (one_or_not k r) as (λ _. IsSeat state c.limits (slice_index_or c.seats k None)
+        conditions = λ k lk. elim (one_or_not k r) as (λ _. IsSeat state c.limits (slice_index_or c.seats k DownSeat)
             (slice_get servers k) (slice_get tables k) (replica (put r x s) k).condition) [
-              | inl e ↦ subst (λ k. IsSeat state c.limits (slice_index_or c.seats k None) (slice_get servers k)
+              | inl e ↦ subst (λ k. IsSeat state c.limits (slice_index_or c.seats k DownSeat) (slice_get servers k)
                   (slice_get tables k) (replica (put r x s) k).condition) (sym e)
                   (rw same (h.conditions r within))
               | inr ne ↦ rw (other k ne) (h.conditions k lk)
             ];
+        aimed = h.aimed;
         words = λ k q lk. elim (one_or_not k r) as (λ _. lookup q (replica (put r x s) k).words
             ≡ cond (has (c.decisions q)) None (word_at c.ballots k q)) [
               | inl e ↦ subst (λ k. lookup q (replica (put r x s) k).words
@@ -143,12 +168,12 @@ module _ {X : Type 0} (state : X → Server) where
           ]
 
   -- a place becomes stable
-  pub state_stable : (c : Kept) (seats' : List (Option Seat)) (roots' : List Ballot) (servers : List X)
+  pub state_stable : (c : Kept) (seats' : List Seat) (roots' : List Ballot) (servers : List X)
       (tables : List ConfTable) (m : Moment) (p : ℕ) (d : List ℕ) → IsState state c servers tables m.state →
-      SeatsSee p c.seats seats' → Drops p c.roots roots' →
+      c.stable < p → SeatsSee p c.seats seats' → Drops p c.roots roots' →
       IsState state (record c { seats = seats'; roots = roots'; stable = p; root = d }) servers tables
       (becomes_stable p d m).state
-  state_stable c seats' roots' servers tables m p d h seen drops =
+  state_stable c seats' roots' servers tables m p d h more seen drops =
       let s = m.state in
       let at : (k : ℕ) → replica (becomes_stable p d m).state k ≡ sees_stable p (replica s k) =
       λ k. sees_at p k s.replicas in
@@ -163,8 +188,10 @@ module _ {X : Type 0} (state : X → Server) where
         voters = h.voters ∙ sym seen.size;
         root_voters = drops.size ∙ h.root_voters ∙ sym seen.size;
         conditions = λ k lk. rw (at k, seen_at p k c.seats seats' seen (low k lk))
-            (seat_sees c.limits p (slice_index_or c.seats k None) (slice_get servers k) (slice_get tables k)
+            (seat_seen c.limits p (slice_index_or c.seats k DownSeat) (slice_get servers k) (slice_get tables k)
             (replica s k).condition (h.conditions k (low k lk)));
+        aimed = λ k b at. aimed_low c.stable p c.root d b more
+            (h.aimed k b (rebuilding_seen p (slice_get c.seats k) b (sym (seen.each k) ∙ at)));
         words = λ k q lk. ap (λ (y : Replica). lookup q y.words) (at k) ∙ h.words k q (low k lk);
         roots = λ k q lk. ap (root_of q) (at k)
             ∙ ap (option_map words.Reply) (lookup-above p q (replica s k).roots)

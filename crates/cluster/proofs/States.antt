@@ -9,14 +9,16 @@ use Rattle.nfs2_types.specs.declared.Word.{Word}
 use Rattle.nfs2_types.specs.declared.Word.TheVariants as words
 use Rattle.server_trait.specs.Tree.{Server}
 use Rattle.server_trait.specs.declared.ConfTable.{ConfTable}
-use Rattle.server_trait.proofs.TreeLaws.{one_or_not}
+use Rattle.server_trait.proofs.TreeLaws.{one_or_not, some_same}
 use Rattle.cluster_model.specs.Tree.{below}
 use Rattle.cluster_model.specs.State.{Condition, State, Replica, lookup, has, is_word, says}
 use Rattle.cluster_model.specs.Moments.{Moment, gone, replica, put, adds_word, decides, without, forgets_words, votes}
-use Rattle.replica.specs.declared.Replica.{Replica as Seat}
+use Rattle.seats.specs.declared.Seat.{Seat}
+use Rattle.seats.specs.declared.Seat.TheVariants.{Rebuilding as RebuildingSeat, Down as DownSeat}
+use Rattle.recovery.specs.Rebuilt.{Rebuilt}
 use Rattle.reply_vote.specs.Ballots.{Ballot, word_at, votes_for, Casts, Forgets}
-use Rattle.cluster.specs.Positions.{ChangesAt}
-use Rattle.cluster.specs.OverBench.{Kept, IsSeat, IsState}
+use Rattle.seats.specs.Positions.{ChangesAt}
+use Rattle.cluster.specs.OverBench.{Kept, IsAimed, IsSeat, IsState}
 use Rattle.cluster.specs.Casting.{Decides}
 use Rattle.cluster.proofs.ListFacts.{read_same, read_is, count_same, lookup-append_none, lookup-append_other, without_same, without_other}
 
@@ -32,13 +34,14 @@ forgets_at p (suc k) (x ∷ xs) = forgets_at p k xs
 
 module _ {X : Type 0} (state : X → Server) where
   -- one replica comes into a condition that its position stands for; all others stay
-  pub state_put : (c : Kept) (seats : List (Option Seat)) (servers servers' : List X) (tables tables' : List ConfTable)
-      (s : State) (r : ℕ) (seat : Option Seat) (now : Condition) →
+  pub state_put : (c : Kept) (seats : List Seat) (servers servers' : List X) (tables tables' : List ConfTable)
+      (s : State) (r : ℕ) (seat : Seat) (now : Condition) →
       IsState state c servers tables s → r < length c.seats → ChangesAt r c.seats seats →
       slice_get seats r ≡ Some seat → ChangesAt r servers servers' → ChangesAt r tables tables' →
       IsSeat state c.limits seat (slice_get servers' r) (slice_get tables' r) now →
+      ((b : Rebuilt) → seat ≡ RebuildingSeat b → IsAimed c.stable c.root b) →
       IsState state (record c { seats = seats }) servers' tables' (put r (record (replica s r) { condition = now }) s)
-  state_put c seats servers servers' tables tables' s r seat now h within cs is_seat sv tb here =
+  state_put c seats servers servers' tables tables' s r seat now h within cs is_seat sv tb here aimed =
       let x : Replica = record (replica s r) { condition = now } in
       let size : length (set s.replicas r x) ≡ length s.replicas = length-set s.replicas r x in
       let l : r < length s.replicas = (let e = h.size in omega arith) in
@@ -54,14 +57,18 @@ module _ {X : Type 0} (state : X → Server) where
         size = size ∙ h.size ∙ sym cs.size;
         voters = h.voters ∙ sym cs.size;
         root_voters = h.root_voters ∙ sym cs.size;
-        conditions = λ k lk. elim (one_or_not k r) as (λ _. IsSeat state c.limits (slice_index_or seats k None)
+        conditions = λ k lk. elim (one_or_not k r) as (λ _. IsSeat state c.limits (slice_index_or seats k DownSeat)
             (slice_get servers' k) (slice_get tables' k) (replica (put r x s) k).condition) [
-              | inl e ↦ subst (λ k. IsSeat state c.limits (slice_index_or seats k None) (slice_get servers' k)
+              | inl e ↦ subst (λ k. IsSeat state c.limits (slice_index_or seats k DownSeat) (slice_get servers' k)
                   (slice_get tables' k) (replica (put r x s) k).condition) (sym e)
-                  (rw (same, read_is seats r seat None is_seat) here)
-              | inr ne ↦ rw (other k ne, read_same seats c.seats k None (cs.others k ne), sv.others k ne, tb.others k ne)
+                  (rw (same, read_is seats r seat DownSeat is_seat) here)
+              | inr ne ↦ rw (other k ne, read_same seats c.seats k DownSeat (cs.others k ne), sv.others k ne, tb.others k ne)
                   (h.conditions k (let e = cs.size in omega arith))
             ];
+        aimed = λ k b at. elim (one_or_not k r) as (λ _. IsAimed c.stable c.root b) [
+          | inl e ↦ aimed b (some_same is_seat (ap (slice_get seats) (sym e) ∙ at))
+          | inr ne ↦ h.aimed k b (sym (cs.others k ne) ∙ at)
+        ];
         words = λ k p lk. elim (one_or_not k r) as (λ _. lookup p (replica (put r x s) k).words
             ≡ cond (has (c.decisions p)) None (word_at c.ballots k p)) [
               | inl e ↦ subst (λ k. lookup p (replica (put r x s) k).words
@@ -98,13 +105,14 @@ module _ {X : Type 0} (state : X → Server) where
         size = size ∙ h.size;
         voters = cast.size ∙ h.voters;
         root_voters = h.root_voters;
-        conditions = λ k lk. elim (one_or_not k r) as (λ _. IsSeat state c.limits (slice_index_or c.seats k None)
+        conditions = λ k lk. elim (one_or_not k r) as (λ _. IsSeat state c.limits (slice_index_or c.seats k DownSeat)
             (slice_get servers k) (slice_get tables k) (replica (put r x s) k).condition) [
-              | inl e ↦ subst (λ k. IsSeat state c.limits (slice_index_or c.seats k None) (slice_get servers k)
+              | inl e ↦ subst (λ k. IsSeat state c.limits (slice_index_or c.seats k DownSeat) (slice_get servers k)
                   (slice_get tables k) (replica (put r x s) k).condition) (sym e)
                   (rw same (h.conditions r within))
               | inr ne ↦ rw (other k ne) (h.conditions k lk)
             ];
+        aimed = h.aimed;
         words = λ k q lk. elim (one_or_not k r) as (λ _. lookup q (replica (put r x s) k).words
             ≡ cond (has (c.decisions q)) None (word_at ballots' k q)) [
               | inl e ↦ subst (λ k. lookup q (replica (put r x s) k).words
@@ -157,6 +165,7 @@ module _ {X : Type 0} (state : X → Server) where
         voters = f.size ∙ h.voters;
         root_voters = h.root_voters;
         conditions = λ k lk. rw (at k) (h.conditions k lk);
+        aimed = h.aimed;
         words = λ k q lk. ap (λ (y : Replica). lookup q y.words) (at k) ∙ (elim (one_or_not q p) as
             (λ _. lookup q (without p (replica s k).words) ≡ cond (has (decisions' q)) None (word_at ballots' k q)) [
               | inl e ↦ subst (λ q. lookup q (without p (replica s k).words)

@@ -22,9 +22,10 @@ use Rattle.cluster_model.specs.Turns.{Slot, Turn, Next, Not, turn, run_turn, qui
 use Rattle.cluster_model.specs.Step.{step}
 use Rattle.cluster_model.specs.Run.{Always, failed_of, faults_in}
 use Rattle.cluster_model.specs.Loose.{LooseStep}
+use Rattle.cluster_model.specs.Walk.{WalkedStep}
 use Rattle.cluster_model.proofs.Growing.{last-append}
 use Rattle.cluster_model.proofs.Keeping.{IsClosed, any_keeps}
-use Rattle.cluster_model.proofs.Lines.{step_chain}
+use Rattle.cluster_model.proofs.Lines.{loose_chain}
 use Rattle.cluster_model.proofs.Quiet.{IsQuiet, run_all_early}
 use Rattle.cluster_model.proofs.Struck.{word_bench, root_bench}
 use Rattle.cluster_model.proofs.Voted.{Always-last}
@@ -59,30 +60,44 @@ bench_stays S faults e m b h none ms loose = any_keeps S (λ (s : State). s.benc
 
 -- FROM THE LAST MOMENT OF A STEP TO THE WHOLE OF IT
 
+-- where the record is no Fetch, the loose step and the walked one are the model's
+abbrev pub IsExactStep : Service → Faults → Event → Moment → Type 0
+IsExactStep S faults e m = LooseStep S faults e m (step S faults e m) × WalkedStep S faults e m (step S faults e m)
+
 module _ {X : Type 0} (state : X → Server) where
-  pub step_follows : (old new : Kept) (servers servers' : List X) (tables tables' : List ConfTable)
+  pub moments_follow : (old new : Kept) (servers servers' : List X) (tables tables' : List ConfTable)
       (met : List FaultPoint) (e : Event) (ls : List Line) (m : Moment) → IsState state old servers tables m.state →
-      ((r spare : ℕ) → e ≡ Swap r spare → ⊥) →
-      (let ms = step (service old.limits) (faults_in met (suc old.events)) e m in
-      LooseStep (service old.limits) (faults_in met (suc old.events)) e m ms) →
-      (let n = last m (step (service old.limits) (faults_in met (suc old.events)) e m) in
-      IsState state new servers' tables' n.state × (n.lines ≡ m.lines ++ ls)) →
+      ((r spare : ℕ) → e ≡ Swap r spare → ⊥) → (ms : List Moment) →
+      LooseStep (service old.limits) (faults_in met (suc old.events)) e m ms →
+      WalkedStep (service old.limits) (faults_in met (suc old.events)) e m ms →
+      IsState state new servers' tables' (last m ms).state × ((last m ms).lines ≡ m.lines ++ ls) →
       AreStruckBy state ls servers servers' →
       Follows state old new servers servers' tables' met e ls m
-  step_follows old new servers servers' tables tables' met e ls m h none loose out struck =
+  moments_follow old new servers servers' tables tables' met e ls m h none ms loose walked out struck =
       let S = service old.limits in
       let faults = faults_in met (suc old.events) in
-      let ms = step S faults e m in
       let b = below (length servers) in
       let same : Always (λ (n : Moment). n.state.bench ≡ b) ms = bench_stays S faults e m b h.order none ms loose in
       record {
         ms = ms;
-        is_step = loose;
+        is_step = walked;
         stands = out.0;
         adds = out.1;
-        struck = struck_moments state m ms ls servers servers' (step_chain S faults e m) h.order same
+        struck = struck_moments state m ms ls servers servers' (loose_chain S faults e m ms loose) h.order same
             (Always-last (λ (n : Moment). n.state.bench ≡ b) m ms h.order same) out.1 struck;
       }
+
+  pub step_follows : (old new : Kept) (servers servers' : List X) (tables tables' : List ConfTable)
+      (met : List FaultPoint) (e : Event) (ls : List Line) (m : Moment) → IsState state old servers tables m.state →
+      ((r spare : ℕ) → e ≡ Swap r spare → ⊥) →
+      IsExactStep (service old.limits) (faults_in met (suc old.events)) e m →
+      (let n = last m (step (service old.limits) (faults_in met (suc old.events)) e m) in
+      IsState state new servers' tables' n.state × (n.lines ≡ m.lines ++ ls)) →
+      AreStruckBy state ls servers servers' →
+      Follows state old new servers servers' tables' met e ls m
+  step_follows old new servers servers' tables tables' met e ls m h none exact out struck =
+      moments_follow old new servers servers' tables tables' met e ls m h none
+      (step (service old.limits) (faults_in met (suc old.events)) e m) exact.0 exact.1 out struck
 
   -- RUNALL
 
@@ -141,7 +156,7 @@ module _ {X : Type 0} (state : X → Server) where
         limits = h.going.stays.same.limits;
         requests = h.going.stays.same.requests ∙ sym (append-nil a.requests);
         events = h.going.stays.same.events;
-        moves = λ m s. step_follows a b sa sb ta tb mb RunAll lb m s (λ r spare is. absurd (cc)) refl
+        moves = λ m good s. step_follows a b sa sb ta tb mb RunAll lb m s (λ r spare is. absurd (cc)) (refl, refl)
             (subst (λ ls. IsState state b sb tb (last m (step (service a.limits) (faults_in mb e) RunAll m)).state
             × ((last m (step (service a.limits) (faults_in mb e) RunAll m)).lines ≡ m.lines ++ ls)) (sym lines_is)
             (run_all_ends a b sa sb ta tb ma mb la lb h (faults_in mb e) fails m s))
@@ -192,7 +207,7 @@ module _ {X : Type 0} (state : X → Server) where
       limits = same.limits;
       requests = same.requests ∙ sym (append-nil a.requests);
       events = same.events;
-      moves = λ m s. (
+      moves = λ m good s. (
           let S = service a.limits in
           let faults = faults_in mb (suc a.events) in
           let out = h.moves faults failed m s in
@@ -200,7 +215,7 @@ module _ {X : Type 0} (state : X → Server) where
           let is : n ≡ slot_turn S faults m (record { round = 0; replica = r }) =
           run_or_idle S (faults 0 r) r (turn S m.state r) m (slot_turn S faults m (record { round = 0; replica = r }))
           (subst (λ x. IsIdle state a b sa sb ta tb ma mb la lb r x) is_none is_idle m s) refl in
-          step_follows a b sa sb ta tb mb (Run r) lb m s (λ j spare e. absurd (cc)) refl
+          step_follows a b sa sb ta tb mb (Run r) lb m s (λ j spare e. absurd (cc)) (refl, refl)
           (subst (λ (k : Moment). IsState state b sb tb k.state × (k.lines ≡ m.lines ++ lb)) (sym is)
           (out.0, out.1 ∙ ap (λ ls. m.lines ++ ls) (sym lines_is)))
           (subst (λ ls. AreStruckBy state ls sa sb) (sym lines_is) h.struck));
@@ -211,8 +226,7 @@ module _ {X : Type 0} (state : X → Server) where
   module _ (e : Event) (does : Faults → Moment → Moment) (a b : Kept) (sa sb : List X) (ta tb : List ConfTable)
       (mb : List FaultPoint) (lb : List Line) (asks : asked_by e ≡ [])
       (no_swap : (r spare : ℕ) → e ≡ Swap r spare → ⊥)
-      (exact : (faults : Faults) (m : Moment) →
-      LooseStep (service a.limits) faults e m (step (service a.limits) faults e m))
+      (exact : (faults : Faults) (m : Moment) → IsExactStep (service a.limits) faults e m)
       (does_it : (faults : Faults) (m : Moment) → step (service a.limits) faults e m ≡ does faults m ∷ []) where
     -- what does it leads to a state that cluster and bench stand for
     follows_by : (m : Moment) → IsState state a sa ta m.state →
@@ -243,7 +257,7 @@ module _ {X : Type 0} (state : X → Server) where
           limits = same.limits;
           requests = same.requests ∙ sym (append-nil a.requests) ∙ ap (λ q. a.requests ++ q) (sym asks);
           events = same.events;
-          moves = λ m s. (
+          moves = λ m good s. (
               let out = h.moves (faults_in mb (suc a.events)) failed m s in
               follows_by m s (out.0, out.1 ∙ ap (λ ls. m.lines ++ ls) (sym lines_is))
               (subst (λ ls. AreStruckBy state ls sa sb) (sym lines_is) h.struck));
@@ -261,7 +275,7 @@ module _ {X : Type 0} (state : X → Server) where
       limits = same.limits;
       requests = same.requests ∙ sym (append-nil a.requests) ∙ ap (λ q. a.requests ++ q) (sym asks);
       events = same.events;
-      moves = λ m s. follows_by m s (moves (faults_in mb (suc a.events)) m s)
+      moves = λ m good s. follows_by m s (moves (faults_in mb (suc a.events)) m s)
           (subst (λ l. AreStruckBy state lb sa l) (sym bench) (struck_none state lb sa quiet));
     }
 
@@ -285,7 +299,7 @@ module _ {X : Type 0} (state : X → Server) where
         limits = ap (λ (k : Kept). k.limits) idle.0;
         requests = ap (λ (k : Kept). k.requests) idle.0 ∙ sym (append-nil a.requests);
         events = ap (λ (k : Kept). k.events) idle.0;
-        moves = λ m s. (
+        moves = λ m good s. (
             let S = service a.limits in
             let faults = faults_in mb (suc a.events) in
             let is : run_turn S (faults 0 r) r (turn S m.state r) m ≡ print (lines.Idle r c) m =
@@ -293,7 +307,7 @@ module _ {X : Type 0} (state : X → Server) where
             let s' : IsState state b sb tb m.state = subst (λ (k : Kept). IsState state k sb tb m.state) (sym idle.0)
             (subst (λ l. IsState state a l tb m.state) (sym idle.1)
             (subst (λ l. IsState state a sa l m.state) (sym idle.2) s)) in
-            step_follows state a b sa sb ta tb mb (Run r) lc m s (λ j spare e. absurd (cc)) refl
+            step_follows state a b sa sb ta tb mb (Run r) lc m s (λ j spare e. absurd (cc)) (refl, refl)
             (subst (λ (k : Moment). IsState state b sb tb k.state × (k.lines ≡ m.lines ++ lc)) (sym is)
             (s', ap (λ ls. m.lines ++ ls) (sym one_line)))
             (subst (λ l. AreStruckBy state lc sa l) (sym idle.1)
@@ -320,6 +334,7 @@ module _ {X : Type 0} (state : X → Server) where
     voters = h.voters;
     root_voters = h.root_voters;
     conditions = h.conditions;
+    aimed = h.aimed;
     words = h.words;
     roots = h.roots;
   }
@@ -335,8 +350,8 @@ module _ {X : Type 0} (state : X → Server) where
     limits = ap (λ (k : Kept). k.limits) c_is ∙ h.limits;
     requests = ap (λ (k : Kept). k.requests) c_is ∙ h.requests;
     events = ap (λ (k : Kept). k.events) c_is ∙ (let z = h.events in omega arith);
-    moves = λ m s. (
-        let go = h.moves m s in
+    moves = λ m good s. (
+        let go = h.moves m good s in
         record {
           ms = go.ms;
           is_step = go.is_step;

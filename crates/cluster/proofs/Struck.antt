@@ -20,7 +20,7 @@ use Rattle.log_format.specs.declared.Line.TheVariants as lines
 use Rattle.cluster_model.specs.Tree.{below}
 use Rattle.cluster_model.specs.Run.{failed_of, strikes_in}
 use Rattle.cluster_model.specs.Struck.{IsLater}
-use Rattle.cluster.specs.Positions.{ChangesAt, WatchedAt, AreLater}
+use Rattle.seats.specs.Positions.{ChangesAt, WatchedAt, AreLater}
 use Rattle.cluster.specs.OverBench.{HaveRoom}
 use Rattle.cluster.specs.Turned.{AreStruckBy}
 use Rattle.cluster.proofs.ListFacts.{flat_map-append}

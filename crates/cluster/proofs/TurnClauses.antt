@@ -24,10 +24,13 @@ use Rattle.cluster_model.specs.Moments.{Moment, Faults, decision_line}
 use Rattle.cluster_model.specs.Turns.{Slot, Not, turn, slot_turn}
 use Rattle.cluster_model.specs.Run.{failed_of}
 use Rattle.service_laws.specs.Served.{IsSized, service}
-use Rattle.replica.specs.declared.Replica.{Replica as Seat}
+use Rattle.replica.specs.declared.Replica.{Replica as Runner}
 use Rattle.replica.specs.declared.Cast.{Cast}
 use Rattle.replica.specs.Replicas.{IsOver, harm}
-use Rattle.cluster.specs.Positions.{StandsAt, PassedAt, SkippedAt, ChangesAt, WatchedAt, AreLater}
+use Rattle.seats.specs.declared.Seat.{Seat}
+use Rattle.seats.specs.declared.Seat.TheVariants.{Live as LiveSeat, Down as DownSeat}
+use Rattle.seats.specs.Positions.{StandsAt, PassedAt, SkippedAt, ChangesAt, WatchedAt, AreLater}
+use Rattle.seats.specs.Seats.{HasArray}
 use Rattle.cluster.specs.OverBench.{Kept, IsState, HaveArrays, HaveRoom}
 use Rattle.cluster.specs.Casting.{CastCases, Late, Stood, Decided, RootCases, Low, Waits, IsStable, RootedIf, Voted}
 use Rattle.cluster.specs.Turned.{TurnedBy, Turned, TurnStays, rogue_by, skip_by, first_slot}
@@ -72,7 +75,7 @@ vote_quiet r cast old new ls ls' v =
     ∙ rooted_quiet r cast.place cast.root v.mid new v.between ls' v.rooted
 
 -- the seats but one are as they were
-pub seats_set : (seats : List (Option Seat)) (r k : ℕ) (seat : Option Seat) (o : Option Seat) → k ≢ r →
+pub seats_set : (seats : List Seat) (r k : ℕ) (seat : Seat) (o : Seat) → k ≢ r →
     slice_get (slice_set seats r seat) k ≡ Some o → slice_get seats k ≡ Some o
 seats_set seats r k seat o ne e = sym (slice_get-set_other seats r k seat ne) ∙ e
 
@@ -125,17 +128,17 @@ module _ {X : Type 0} (state : X → Server) where
       ok_count (Err y) x ok h = absurd (cc)
 
   -- a turn in which its server failed
-  pub turned_down : {T : Type 0} (does : Faults → Moment → Moment) (c new : Kept) (servers servers' : List X)
+  pub turned_fell : {T : Type 0} (does : Faults → Moment → Moment) (c new : Kept) (servers servers' : List X)
       (tables tables' : List ConfTable) (r : ℕ) (met met' : List FaultPoint) (ls ls' : List Line) (t : Slot)
       (result : Result T WrapErr) → result ≡ Err errors.Down →
       WatchedAt state (slice_get servers r) (slice_get servers' r) result → ChangesAt r servers servers' →
-      new ≡ record c { seats = slice_set c.seats r None } → ls' ≡ ls ++ lines.Down r ∷ [] →
+      ls' ≡ ls ++ lines.Down r ∷ [] →
       met' ≡ met ++ record { event = c.events + 1; stage = t.round; replica = t.replica } ∷ [] → t.replica ≡ r →
       ((faults : Faults) → faults t.round t.replica ≡ true → (m : Moment) → IsState state c servers tables m.state →
-      IsState state (record c { seats = slice_set c.seats r None }) servers' tables' (does faults m).state
+      IsState state new servers' tables' (does faults m).state
       × ((does faults m).lines ≡ m.lines ++ lines.Down r ∷ [])) →
       TurnedBy state does t c new servers servers' tables tables' met met' ls ls'
-  turned_down does c new servers servers' tables tables' r met met' ls ls' t result down watched sv new_is said met_is
+  turned_fell does c new servers servers' tables tables' r met met' ls ls' t result down watched sv said met_is
       t_is moves =
       let e : c.events + 1 ≡ suc c.events = omega arith in
       let here : r < length servers = slice_get_within servers r watched.before watched.is_before in
@@ -149,8 +152,7 @@ module _ {X : Type 0} (state : X → Server) where
         size = sv.size;
         struck = struck_down state servers servers' r here sv result watched watched.watched.limits
             (rose result down watched);
-        moves = λ faults struck m h. subst (λ (v : Kept). IsState state v servers' tables' (does faults m).state
-            × ((does faults m).lines ≡ m.lines ++ lines.Down r ∷ [])) (sym new_is) (moves faults struck m h);
+        moves = moves;
       }
     where
       rose : {T : Type 0} (result : Result T WrapErr) → result ≡ Err errors.Down →
@@ -160,22 +162,39 @@ module _ {X : Type 0} (state : X → Server) where
       rose (Err errors.Down) down h = h.watched.faults.1
       rose (Err errors.NoMemory) down h = absurd (cc)
 
-  module _ (c : Kept) (servers servers' : List X) (tables tables' : List ConfTable) (r : ℕ) (k : Seat) (q : Request)
-      (sized : IsSized c.limits) (within : r < length c.seats) (is_seat : slice_get c.seats r ≡ Some (Some k))
+  -- the same where only its seat changes
+  pub turned_down : {T : Type 0} (does : Faults → Moment → Moment) (c new : Kept) (servers servers' : List X)
+      (tables tables' : List ConfTable) (r : ℕ) (met met' : List FaultPoint) (ls ls' : List Line) (t : Slot)
+      (result : Result T WrapErr) → result ≡ Err errors.Down →
+      WatchedAt state (slice_get servers r) (slice_get servers' r) result → ChangesAt r servers servers' →
+      new ≡ record c { seats = slice_set c.seats r DownSeat } → ls' ≡ ls ++ lines.Down r ∷ [] →
+      met' ≡ met ++ record { event = c.events + 1; stage = t.round; replica = t.replica } ∷ [] → t.replica ≡ r →
+      ((faults : Faults) → faults t.round t.replica ≡ true → (m : Moment) → IsState state c servers tables m.state →
+      IsState state (record c { seats = slice_set c.seats r DownSeat }) servers' tables' (does faults m).state
+      × ((does faults m).lines ≡ m.lines ++ lines.Down r ∷ [])) →
+      TurnedBy state does t c new servers servers' tables tables' met met' ls ls'
+  turned_down does c new servers servers' tables tables' r met met' ls ls' t result down watched sv new_is said met_is
+      t_is moves =
+      turned_fell does c new servers servers' tables tables' r met met' ls ls' t result down watched sv said met_is t_is
+      (λ faults struck m h. subst (λ (v : Kept). IsState state v servers' tables' (does faults m).state
+      × ((does faults m).lines ≡ m.lines ++ lines.Down r ∷ [])) (sym new_is) (moves faults struck m h))
+
+  module _ (c : Kept) (servers servers' : List X) (tables tables' : List ConfTable) (r : ℕ) (k : Runner) (q : Request)
+      (sized : IsSized c.limits) (within : r < length c.seats) (is_seat : slice_get c.seats r ≡ Some (LiveSeat k))
       (is_request : slice_get c.requests k.place ≡ Some q) (near : nat_lt (k.place + c.limits.k) c.stable ≡ false)
       (sv : ChangesAt r servers servers') (tb : ChangesAt r tables tables') where
     is_service : IsService (service c.limits) c.limits
     is_service = service_is c.limits sized
 
-    pub turned_runs : (mid new : Kept) (k' : Seat) (met : List FaultPoint) (ls ls' : List Line) (t : Slot)
+    pub turned_runs : (mid new : Kept) (k' : Runner) (met : List FaultPoint) (ls ls' : List Line) (t : Slot)
         (result : Result Cast WrapErr) (cast : Cast) → result ≡ Ok cast → IsOver c.limits.n k → IsOver c.limits.n k' →
         WatchedAt state (slice_get servers r) (slice_get servers' r) result →
         PassedAt state c.limits q (slice_get servers r) (slice_get tables r) (slice_get servers' r)
         (slice_get tables' r) k k' cast →
-        mid ≡ record c { seats = slice_set c.seats r (Some k') } → Voted r cast mid new ls ls' → t.replica ≡ r →
+        mid ≡ record c { seats = slice_set c.seats r (LiveSeat k') } → Voted r cast mid new ls ls' → t.replica ≡ r →
         Turned state t c new servers servers' tables tables' met met ls ls'
     turned_runs mid new k' met ls ls' t result cast ok over over' watched ans mid_is voted t_is =
-        let set : Kept = record c { seats = slice_set c.seats r (Some k') } in
+        let set : Kept = record c { seats = slice_set c.seats r (LiveSeat k') } in
         let v : Voted r cast set new ls ls' = subst (λ (m : Kept). Voted r cast m new ls ls') mid_is voted in
         turned_ok (λ faults m. slot_turn (service c.limits) faults m t) c new servers servers' tables tables' r met ls ls'
         (vote_lines r cast set new ls ls' v) t result cast ok watched sv (vote_lines_are r cast set new ls ls' v)
@@ -186,7 +205,7 @@ module _ {X : Type 0} (state : X → Server) where
     pub turned_fails : (new : Kept) (met met' : List FaultPoint) (ls ls' : List Line) (t : Slot)
         (result : Result Cast WrapErr) → result ≡ Err errors.Down →
         WatchedAt state (slice_get servers r) (slice_get servers' r) result →
-        new ≡ record c { seats = slice_set c.seats r None } → ls' ≡ ls ++ lines.Down r ∷ [] →
+        new ≡ record c { seats = slice_set c.seats r DownSeat } → ls' ≡ ls ++ lines.Down r ∷ [] →
         met' ≡ met ++ record { event = c.events + 1; stage = t.round; replica = t.replica } ∷ [] → t.replica ≡ r →
         Turned state t c new servers servers' tables tables' met met' ls ls'
     turned_fails new met met' ls ls' t result down watched new_is said met_is t_is =
@@ -196,15 +215,15 @@ module _ {X : Type 0} (state : X → Server) where
         is_request near servers' tables' t t_is sv tb faults m h struck)
 
     -- another request in place of its own
-    pub turned_rogue : (rq : Request) (mid new : Kept) (k' : Seat) (met : List FaultPoint) (ls ls' : List Line)
+    pub turned_rogue : (rq : Request) (mid new : Kept) (k' : Runner) (met : List FaultPoint) (ls ls' : List Line)
         (result : Result Cast WrapErr) (cast : Cast) → result ≡ Ok cast → IsOver c.limits.n k → IsOver c.limits.n k' →
         WatchedAt state (slice_get servers r) (slice_get servers' r) result →
         PassedAt state c.limits rq (slice_get servers r) (slice_get tables r) (slice_get servers' r)
         (slice_get tables' r) (harm k) k' cast →
-        mid ≡ record c { seats = slice_set c.seats r (Some k') } → Voted r cast mid new ls ls' →
+        mid ≡ record c { seats = slice_set c.seats r (LiveSeat k') } → Voted r cast mid new ls ls' →
         TurnedBy state (rogue_by c r rq) (first_slot r) c new servers servers' tables tables' met met ls ls'
     turned_rogue rq mid new k' met ls ls' result cast ok over over' watched ans mid_is voted =
-        let set : Kept = record c { seats = slice_set c.seats r (Some k') } in
+        let set : Kept = record c { seats = slice_set c.seats r (LiveSeat k') } in
         let v : Voted r cast set new ls ls' = subst (λ (m : Kept). Voted r cast m new ls ls') mid_is voted in
         turned_ok (rogue_by c r rq) c new servers servers' tables tables' r met ls ls'
         (vote_lines r cast set new ls ls' v) (first_slot r) result cast ok watched sv
@@ -215,7 +234,7 @@ module _ {X : Type 0} (state : X → Server) where
     pub turned_rogue_fails : (rq : Request) (new : Kept) (met met' : List FaultPoint) (ls ls' : List Line)
         (result : Result Cast WrapErr) → result ≡ Err errors.Down →
         WatchedAt state (slice_get servers r) (slice_get servers' r) result →
-        new ≡ record c { seats = slice_set c.seats r None } → ls' ≡ ls ++ lines.Down r ∷ [] →
+        new ≡ record c { seats = slice_set c.seats r DownSeat } → ls' ≡ ls ++ lines.Down r ∷ [] →
         met' ≡ met ++ record { event = c.events + 1; stage = 0; replica = r } ∷ [] →
         TurnedBy state (rogue_by c r rq) (first_slot r) c new servers servers' tables tables' met met' ls ls'
     turned_rogue_fails rq new met met' ls ls' result down watched new_is said met_is =
@@ -225,15 +244,15 @@ module _ {X : Type 0} (state : X → Server) where
         is_request near servers' tables' (first_slot r) refl sv tb faults m h rq struck)
 
     -- no request in its place
-    pub turned_skip : (mid new : Kept) (k' : Seat) (met : List FaultPoint) (ls ls' : List Line)
+    pub turned_skip : (mid new : Kept) (k' : Runner) (met : List FaultPoint) (ls ls' : List Line)
         (result : Result (Option (List ℕ)) WrapErr) (o : Option (List ℕ)) → result ≡ Ok o → IsOver c.limits.n k →
         IsOver c.limits.n k' → WatchedAt state (slice_get servers r) (slice_get servers' r) result →
         SkippedAt state c.limits (slice_get servers r) (slice_get tables r) (slice_get servers' r) (slice_get tables' r)
         k k' o →
-        mid ≡ record c { seats = slice_set c.seats r (Some k') } → RootedIf r k'.place o mid new ls ls' →
+        mid ≡ record c { seats = slice_set c.seats r (LiveSeat k') } → RootedIf r k'.place o mid new ls ls' →
         TurnedBy state (skip_by c r) (first_slot r) c new servers servers' tables tables' met met ls ls'
     turned_skip mid new k' met ls ls' result o ok over over' watched ans mid_is rooted =
-        let set : Kept = record c { seats = slice_set c.seats r (Some k') } in
+        let set : Kept = record c { seats = slice_set c.seats r (LiveSeat k') } in
         let v : RootedIf r k'.place o set new ls ls' =
         subst (λ (m : Kept). RootedIf r k'.place o m new ls ls') mid_is rooted in
         turned_ok (skip_by c r) c new servers servers' tables tables' r met ls ls'
@@ -245,7 +264,7 @@ module _ {X : Type 0} (state : X → Server) where
     pub turned_skip_fails : (new : Kept) (met met' : List FaultPoint) (ls ls' : List Line)
         (result : Result (Option (List ℕ)) WrapErr) → result ≡ Err errors.Down →
         WatchedAt state (slice_get servers r) (slice_get servers' r) result →
-        new ≡ record c { seats = slice_set c.seats r None } → ls' ≡ ls ++ lines.Down r ∷ [] →
+        new ≡ record c { seats = slice_set c.seats r DownSeat } → ls' ≡ ls ++ lines.Down r ∷ [] →
         met' ≡ met ++ record { event = c.events + 1; stage = 0; replica = r } ∷ [] →
         TurnedBy state (skip_by c r) (first_slot r) c new servers servers' tables tables' met met' ls ls'
     turned_skip_fails new met met' ls ls' result down watched new_is said met_is =
@@ -254,30 +273,28 @@ module _ {X : Type 0} (state : X → Server) where
         (λ faults struck m h. skip_fails state (service c.limits) c is_service servers tables r k q within is_seat
         is_request near servers' tables' (first_slot r) refl sv tb faults m h struck)
 
-  -- the arrays of live replicas, where one position changed and stands for an array, if its replica is live
+  -- the arrays of replicas, where one position changed and has an array, unless its replica is down
   pub arrays_set : (c new : Kept) (servers servers' : List X) (tables tables' : List ConfTable) (r : ℕ)
-      (seat : Option Seat) → HaveArrays state c servers tables → ChangesAt r servers servers' →
+      (seat : Seat) → HaveArrays state c servers tables → ChangesAt r servers servers' →
       ChangesAt r tables tables' → new.limits ≡ c.limits → new.seats ≡ slice_set c.seats r seat →
-      ((k : Seat) → seat ≡ Some k → (A : List Entry) × StandsAt state c.limits (slice_get servers' r)
-      (slice_get tables' r) A) →
+      HasArray state c.limits seat (slice_get servers' r) (slice_get tables' r) →
       HaveArrays state new servers' tables'
-  arrays_set c new servers servers' tables tables' r seat have sv tb limits seats here j k e =
-      subst (λ l. (A : List Entry) × StandsAt state l (slice_get servers' j) (slice_get tables' j) A) (sym limits)
-      (elim (one_or_not j r) as (λ _. (A : List Entry) × StandsAt state c.limits (slice_get servers' j)
-      (slice_get tables' j) A) [
+  arrays_set c new servers servers' tables tables' r seat have sv tb limits seats here j s e =
+      subst (λ l. HasArray state l s (slice_get servers' j) (slice_get tables' j)) (sym limits)
+      (elim (one_or_not j r) as (λ _. HasArray state c.limits s (slice_get servers' j) (slice_get tables' j)) [
         | inl same ↦
-            subst (λ i. (A : List Entry) × StandsAt state c.limits (slice_get servers' i) (slice_get tables' i) A)
-            (sym same) (here k (at_seat same))
+            subst (λ i. HasArray state c.limits s (slice_get servers' i) (slice_get tables' i)) (sym same)
+            (subst (λ x. HasArray state c.limits x (slice_get servers' r) (slice_get tables' r)) (at_seat same) here)
         | inr ne ↦ rw (sv.others j ne, tb.others j ne)
-            (have j k (seats_set c.seats r j seat (Some k) ne (ap (λ xs. slice_get xs j) (sym seats) ∙ e)))
+            (have j s (seats_set c.seats r j seat s ne (ap (λ xs. slice_get xs j) (sym seats) ∙ e)))
       ])
     where
       -- where it is read, it is what was written
-      at_seat : j ≡ r → seat ≡ Some k
+      at_seat : j ≡ r → seat ≡ s
       at_seat same =
-          let now : slice_get (slice_set c.seats r seat) r ≡ Some (Some k) =
+          let now : slice_get (slice_set c.seats r seat) r ≡ Some s =
           ap (slice_get (slice_set c.seats r seat)) (sym same) ∙ ap (λ xs. slice_get xs j) (sym seats) ∙ e in
-          let inside : r < length c.seats = (let w = slice_get_within (slice_set c.seats r seat) r (Some k) now in
+          let inside : r < length c.seats = (let w = slice_get_within (slice_set c.seats r seat) r s now in
           let l = length-set c.seats r seat in omega arith) in
           let wrote : slice_get (slice_set c.seats r seat) r ≡ Some seat =
           slice_get-set_same c.seats r seat (get_or c.seats r seat) (slice_get-get_or c.seats r seat inside) in
@@ -285,12 +302,11 @@ module _ {X : Type 0} (state : X → Server) where
 
   -- what stays over a turn
   pub stays_set : (c new : Kept) (servers servers' : List X) (tables tables' : List ConfTable) (r : ℕ)
-      (seat : Option Seat) → HaveArrays state c servers tables → HaveRoom state c.limits servers →
+      (seat : Seat) → HaveArrays state c servers tables → HaveRoom state c.limits servers →
       (n : ℕ) → AreLater state n servers servers' → ChangesAt r servers servers' →
       ChangesAt r tables tables' → new.limits ≡ c.limits → new.requests ≡ c.requests →
       new.seats ≡ slice_set c.seats r seat → new.events ≡ c.events →
-      ((k : Seat) → seat ≡ Some k → (A : List Entry) × StandsAt state c.limits (slice_get servers' r)
-      (slice_get tables' r) A) →
+      HasArray state c.limits seat (slice_get servers' r) (slice_get tables' r) →
       TurnStays state c new servers' tables'
   stays_set c new servers servers' tables tables' r seat have room n later sv tb limits requests seats events here = record {
     same = record {
@@ -313,7 +329,7 @@ module _ {X : Type 0} (state : X → Server) where
 
   -- the array after an answer
   pub array_after : (c : Kept) (q : Request) (servers servers' : List X) (tables tables' : List ConfTable) (r : ℕ)
-      (k k' : Seat) (cast : Cast) →
+      (k k' : Runner) (cast : Cast) →
       ((A : List Entry) × StandsAt state c.limits (slice_get servers r) (slice_get tables r) A) →
       PassedAt state c.limits q (slice_get servers r) (slice_get tables r) (slice_get servers' r)
       (slice_get tables' r) k k' cast →

@@ -10,6 +10,8 @@ use Rattle.reply_vote.specs.Ballots.{Ballot, votes_for, Casts, Forgets, Drops}
 use Rattle.cow_checkpoint.specs.Store.{drops}
 use Rattle.replica.specs.declared.Replica.{Replica}
 use Rattle.replica.specs.declared.Cast.{Cast}
+use Rattle.seats.specs.declared.Seat.{Seat}
+use Rattle.seats.specs.declared.Seat.TheVariants.{Live as LiveSeat, Rebuilding as RebuildingSeat, Down as DownSeat}
 use Rattle.cluster.specs.OverBench.{Kept}
 
 -- REPLY WORDS
@@ -51,10 +53,16 @@ pub record Counted (r p : ℕ) (w : Word) (old new : Kept) (ls ls' : List Line) 
 abbrev pub sees : ℕ → Replica → Replica
 sees p k = record k { store = drops p k.store }
 
+-- the same of what stands at a position
+abbrev pub seat_sees : ℕ → Seat → Seat
+seat_sees p (LiveSeat k) = LiveSeat (sees p k)
+seat_sees p (RebuildingSeat b) = RebuildingSeat b
+seat_sees p DownSeat = DownSeat
+
 -- each live replica has forgotten them
-pub record SeatsSee (p : ℕ) (old new : List (Option Replica)) : Type 0 where
+pub record SeatsSee (p : ℕ) (old new : List Seat) : Type 0 where
   pub size : length new ≡ length old
-  pub each : (r : ℕ) → slice_get new r ≡ option_map (option_map (sees p)) (slice_get old r)
+  pub each : (r : ℕ) → slice_get new r ≡ option_map (seat_sees p) (slice_get old r)
 
 -- what stands beside root words, the stable place and what replicas hold
 pub record SameButRoots (old new : Kept) : Type 0 where

@@ -1,4 +1,3 @@
-pub mod Positions
 pub mod OverBench
 pub mod Steps
 pub mod Kept
@@ -6,3 +5,4 @@ pub mod Casting
 pub mod Turned
 pub mod Went
 pub mod Begun
+pub mod Fetching

@@ -1,29 +1,32 @@
 -- How a cluster and its bench stand for a state of the model. The cluster keeps no array: the array of a replica is
 -- what its server and table stand for, whichever it is. Where the state has a list of pairs, the cluster has a map,
 -- and only look-ups are compared.
-use Rattle.std.specs.Prelude.{◌≡◌, ℕ, ◌<◌, List, length, slice_get, slice_index_or, Option, Some, None, option_map, cond, Bool, ◌==◌, ◌||◌}
+use Rattle.std.specs.Prelude.{◌≡◌, ℕ, ◌<◌, ◌≤◌, List, length, slice_get, slice_index_or, Option, Some, None, option_map, cond, Bool, ◌==◌, ◌||◌}
 use Rattle.nfs2_types.specs.declared.Limits.{Limits}
 use Rattle.nfs2_types.specs.declared.Word.{Word}
 use Rattle.nfs2_types.specs.declared.Word.TheVariants.{Reply}
-use Rattle.abs_model.specs.declared.Entry.{Entry}
 use Rattle.server_trait.specs.Tree.{Server}
 use Rattle.server_trait.specs.declared.ConfTable.{ConfTable}
 use Rattle.cluster_model.specs.declared.Request.{Request}
 use Rattle.cluster_model.specs.Tree.{below}
-use Rattle.cluster_model.specs.State.{Running, Condition, Live, Down, State, lookup, has}
+use Rattle.cluster_model.specs.State.{Running, Fetching, Condition, Live, Rebuilding, Down, State, lookup, has}
 use Rattle.cluster_model.specs.Moments.{replica}
 use Rattle.replica.specs.declared.Replica.{Replica}
 use Rattle.replica.specs.Replicas.{IsOver}
+use Rattle.recovery.specs.Rebuilt.{Rebuilt, HasFetched}
+use Rattle.seats.specs.declared.Seat.{Seat}
+use Rattle.seats.specs.declared.Seat.TheVariants.{Live as LiveSeat, Rebuilding as RebuildingSeat, Down as DownSeat}
 use Rattle.reply_vote.specs.Ballots.{Ballot, word_at}
-use Rattle.cluster.specs.Positions.{StandsAt, HasRoomAt}
+use Rattle.seats.specs.Positions.{StandsAt, HasRoomAt}
+use Rattle.seats.specs.Seats.{HasArray}
 
--- what a cluster keeps: its limits, the requests, its replicas by number, of which those that are down are none, the
--- words that they cast, the decided word of each place, the root words that they cast, each as the reply of its bytes,
--- the stable place and its root, and how many events it stepped
+-- what a cluster keeps: its limits, the requests, its replicas by number, the words that they cast, the decided word of
+-- each place, the root words that they cast, each as the reply of its bytes, the stable place and its root, and how many
+-- events it stepped
 pub record Kept : Type 0 where
   pub limits : Limits
   pub requests : List Request
-  pub seats : List (Option Replica)
+  pub seats : List Seat
   pub ballots : List Ballot
   pub decisions : ℕ → Option Word
   pub roots : List Ballot
@@ -49,11 +52,31 @@ pub record IsLive {X : Type 0} (state : X → Server) (limits : Limits) (k : Rep
   pub stands : StandsAt state limits s t live.array
   pub keeps : IsKeptBy k live
 
--- what stands at a position is in this condition: live, or down
-abbrev pub IsSeat : {X : Type 0} → (X → Server) → Limits → Option Replica → Option X → Option ConfTable →
-    Condition → Type 0
-IsSeat state limits (Some k) s t c = IsLive state limits k s t c
-IsSeat state limits None s t c = c ≡ Down
+-- a replica is being rebuilt: its position stands for its array, and it got these items towards its target
+pub record IsFetching {X : Type 0} (state : X → Server) (limits : Limits) (b : Rebuilt) (s : Option X)
+    (t : Option ConfTable) (c : Condition) : Type 0 where
+  pub fetching : Fetching
+  pub is_rebuilding : c ≡ Rebuilding fetching
+  pub stands : StandsAt state limits s t fetching.array
+  pub target : fetching.target ≡ b.target
+  pub fetched : HasFetched fetching.array fetching.got b
+
+-- what stands at a position is in this condition: live, being rebuilt, or down
+abbrev pub IsSeat : {X : Type 0} → (X → Server) → Limits → Seat → Option X → Option ConfTable → Condition → Type 0
+IsSeat state limits (LiveSeat k) s t c = IsLive state limits k s t c
+IsSeat state limits (RebuildingSeat b) s t c = IsFetching state limits b s t c
+IsSeat state limits DownSeat s t c = c ≡ Down
+
+-- what is being rebuilt is fetched towards no place above the stable one, and towards that one with its root
+pub record IsAimed (stable : ℕ) (root : List ℕ) (b : Rebuilt) : Type 0 where
+  pub low : (p : ℕ) → b.target ≡ Some p → p ≤ stable
+  pub root_is : b.target ≡ Some stable → b.root ≡ root
+
+-- what is being rebuilt there is fetched towards this place
+abbrev pub IsAimedAt : ℕ → Seat → Type 0
+IsAimedAt p (RebuildingSeat b) = b.target ≡ Some p
+IsAimedAt p (LiveSeat k) = Unit {0}
+IsAimedAt p DownSeat = Unit {0}
 
 -- the cluster and the bench stand for this state
 pub record IsState {X : Type 0} (state : X → Server) (c : Kept) (servers : List X) (tables : List ConfTable)
@@ -68,8 +91,9 @@ pub record IsState {X : Type 0} (state : X → Server) (c : Kept) (servers : Lis
   pub voters : length c.ballots ≡ length c.seats
   pub root_voters : length c.roots ≡ length c.seats
   pub conditions : (r : ℕ) → r < length c.seats →
-      IsSeat state c.limits (slice_index_or c.seats r None) (slice_get servers r) (slice_get tables r)
+      IsSeat state c.limits (slice_index_or c.seats r DownSeat) (slice_get servers r) (slice_get tables r)
       (replica s r).condition
+  pub aimed : (r : ℕ) (b : Rebuilt) → slice_get c.seats r ≡ Some (RebuildingSeat b) → IsAimed c.stable c.root b
   -- a word for a decided place does not count, kept or not
   pub words : (r p : ℕ) → r < length c.seats →
       lookup p (replica s r).words ≡ cond (has (c.decisions p)) None (word_at c.ballots r p)
@@ -78,17 +102,17 @@ pub record IsState {X : Type 0} (state : X → Server) (c : Kept) (servers : Lis
       option_map Reply (lookup p (replica s r).roots) ≡ word_at c.roots r p
 
 -- each live replica is one of a service with n entries
-abbrev pub AreOver : ℕ → List (Option Replica) → Type 0
-AreOver n seats = (r : ℕ) (k : Replica) → slice_get seats r ≡ Some (Some k) → IsOver n k
+abbrev pub AreOver : ℕ → List Seat → Type 0
+AreOver n seats = (r : ℕ) (k : Replica) → slice_get seats r ≡ Some (LiveSeat k) → IsOver n k
 
 -- a size that a log's header may ask for
 abbrev pub is_size : ℕ → Bool
 is_size n = (n == 16) || (n == 256) || (n == 4096)
 
--- server and table of each live replica stand for some valid array
+-- each replica has server and table, and those of one that is not down stand for some valid array
 abbrev pub HaveArrays : {X : Type 0} → (X → Server) → Kept → List X → List ConfTable → Type 0
-HaveArrays {X} state c servers tables = (r : ℕ) (k : Replica) → slice_get c.seats r ≡ Some (Some k) →
-    (A : List Entry) × StandsAt state c.limits (slice_get servers r) (slice_get tables r) A
+HaveArrays {X} state c servers tables = (r : ℕ) (seat : Seat) → slice_get c.seats r ≡ Some seat →
+    HasArray state c.limits seat (slice_get servers r) (slice_get tables r)
 
 -- each server can hold every array within the limits
 abbrev pub HaveRoom : {X : Type 0} → (X → Server) → Limits → List X → Type 0

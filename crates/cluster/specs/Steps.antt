@@ -7,12 +7,13 @@ use Rattle.server_trait.specs.declared.ConfTable.{ConfTable}
 use Rattle.server_trait.specs.declared.FaultPoint.{FaultPoint}
 use Rattle.server_trait.specs.declared.ServerLimits.{ServerLimits}
 use Rattle.log_format.specs.declared.Event.{Event}
-use Rattle.log_format.specs.declared.Event.TheVariants.{Request as Ask, Run, RunAll, Rogue, Skip, LieReply, LieRoot, LieItem, Wipe, End}
+use Rattle.log_format.specs.declared.Event.TheVariants.{Request as Ask, Run, RunAll, Reboot, Fetch, Rogue, Skip, LieReply, LieRoot, LieItem, Wipe, End}
 use Rattle.log_format.specs.declared.Line.{Line}
 use Rattle.cluster_model.specs.declared.Request.{Request}
 use Rattle.cluster_model.specs.Moments.{Moment}
 use Rattle.cluster_model.specs.Turns.{last}
-use Rattle.cluster_model.specs.Loose.{LooseStep}
+use Rattle.cluster_model.specs.Good.{AllGood}
+use Rattle.cluster_model.specs.Walk.{WalkedStep}
 use Rattle.cluster_model.specs.Run.{AreMet, faults_in, fresh, start}
 use Rattle.cluster_model.specs.Struck.{AreStruck}
 use Rattle.service_laws.specs.Served.{service}
@@ -23,6 +24,8 @@ abbrev pub is_built : Event → Bool
 is_built (Ask client time bytes) = true
 is_built (Run r) = true
 is_built RunAll = true
+is_built (Reboot r) = true
+is_built (Fetch r n) = true
 is_built (Rogue r time bytes) = true
 is_built (Skip r) = true
 is_built (LieReply r place word) = true
@@ -38,10 +41,12 @@ asked_by (Ask client time bytes) = record { time = time; bytes = bytes } ∷ []
 asked_by event = []
 
 -- A record that can be stepped behind these requests: a request comes at a time, and a word has its number; a replica
--- that is to run, or is harmed, is one of the 3f + 1.
+-- that is to run, is rebooted or harmed, is one of the 3f + 1.
 abbrev pub CanStep : Limits → List Request → Event → Type 0
 CanStep limits requests (Ask client time bytes) = (length requests + 1 < 2 ^ 32) × (is_time time ≡ true)
 CanStep limits requests (Run r) = r < 3 * limits.f + 1
+CanStep limits requests (Reboot r) = r < 3 * limits.f + 1
+CanStep limits requests (Fetch r n) = r < 3 * limits.f + 1
 CanStep limits requests (Rogue r time bytes) = (r < 3 * limits.f + 1) × (is_time time ≡ true)
 CanStep limits requests (Skip r) = r < 3 * limits.f + 1
 CanStep limits requests (LieReply r place word) = r < 3 * limits.f + 1
@@ -54,13 +59,13 @@ CanStep limits requests event = IsTrue (is_built event)
 abbrev pub ServersAreStruck : {X : Type 0} → (X → Server) → Moment → List Moment → List X → List X → Type 0
 ServersAreStruck {X} state = AreStruck X ServerLimits (λ x. (state x).faults) (λ x. (state x).limits)
 
--- From a moment that cluster and bench stood for, moments follow that a step of the model may give, where servers fail
--- at the fault points met; cluster and bench stand for the last of them, and these are the lines that it adds.
+-- From a moment that cluster and bench stood for, moments follow that a walked step gives, where servers fail at the
+-- fault points met; cluster and bench stand for the last of them, and these are the lines that it adds.
 pub record Follows {X : Type 0} (state : X → Server) (old new : Kept) (servers servers' : List X)
     (tables' : List ConfTable) (met : List FaultPoint) (event : Event) (lines : List Line) (m : Moment)
     : Type 0 where
   pub ms : List Moment
-  pub is_step : LooseStep (service old.limits) (faults_in met (suc old.events)) event m ms
+  pub is_step : WalkedStep (service old.limits) (faults_in met (suc old.events)) event m ms
   pub stands : IsState state new servers' tables' (last m ms).state
   pub adds : (last m ms).lines ≡ m.lines ++ lines
   pub struck : ServersAreStruck state m ms servers servers'
@@ -71,7 +76,7 @@ ArePointsOf limits event = All (λ (d : FaultPoint). (d.event ≡ event) × (d.r
 
 -- A step of the cluster: the fault points that it met come behind the others, in order, each with its `down` line;
 -- limits and earlier requests stay, one event more is counted; and from every moment that cluster and bench stood for,
--- the model makes this step.
+-- with good arrays, the model makes this step.
 pub record Steps {X : Type 0} (state : X → Server) (old new : Kept) (servers servers' : List X)
     (tables tables' : List ConfTable) (downs downs' : List FaultPoint) (event : Event)
     (lines : List Line) : Type 0 where
@@ -82,7 +87,7 @@ pub record Steps {X : Type 0} (state : X → Server) (old new : Kept) (servers s
   pub limits : new.limits ≡ old.limits
   pub requests : new.requests ≡ old.requests ++ asked_by event
   pub events : new.events ≡ suc old.events
-  pub moves : (m : Moment) → IsState state old servers tables m.state →
+  pub moves : (m : Moment) → AllGood (service old.limits) m.state → IsState state old servers tables m.state →
       Follows state old new servers servers' tables' met event lines m
 
 -- The start over these servers: its fault points have the event number 0; cluster and bench stand for the last

@@ -15,7 +15,8 @@ use Rattle.cluster_model.specs.Turns.{Slot, slots, slot_turn, rogue_turn, skip_t
 use Rattle.cluster_model.specs.Run.{failed_of, strikes_in}
 use Rattle.cluster_model.specs.Struck.{IsLater}
 use Rattle.service_laws.specs.Served.{service}
-use Rattle.replica.specs.declared.Replica.{Replica}
+use Rattle.seats.specs.declared.Seat.{Seat}
+use Rattle.seats.specs.declared.Seat.TheVariants.{Live as LiveSeat, Rebuilding as RebuildingSeat, Down as DownSeat}
 use Rattle.cluster.specs.OverBench.{Kept, IsState, HaveArrays, HaveRoom}
 
 -- the fault point of a turn, if its server failed
@@ -79,11 +80,12 @@ pub record TurnStays {X : Type 0} (state : X → Server) (old new : Kept) (serve
   pub arrays : HaveArrays state new servers' tables'
   pub room : HaveRoom state old.limits servers'
 
--- what a replica may run next, by its place, or why it has no turn: it is down, has run all requests, or stands too far
+-- what a replica may run next, by its place, or why it has no turn: it is not live, has run all requests, or stands too far
 -- behind the stable place
-abbrev pub next_in : Kept → Option Replica → Result ℕ IdleCause
-next_in c None = Err NotLive
-next_in c (Some k) =
+abbrev pub next_in : Kept → Seat → Result ℕ IdleCause
+next_in c DownSeat = Err NotLive
+next_in c (RebuildingSeat b) = Err NotLive
+next_in c (LiveSeat k) =
     if nat_le (length c.requests) k.place then Err AtEnd
     else if nat_lt (k.place + c.limits.k) c.stable then Err Behind
     else Ok k.place

@@ -3,13 +3,17 @@
 ghost use Rattle.std.specs.Prelude.{OnErr, OnOk, IfOk, option_map, slice_get, ◌-◌, ◌+◌, ◌*◌, suc, length, vec_len, ◌≡◌, ◌<◌, ◌≤◌, ◌^◌, ◌++◌, ◌∷◌, []};
 ghost use Rattle.conf_map.specs.Stands.{AreWithin};
 ghost use Rattle.service_laws.specs.Served.{IsSized};
-ghost use Rattle.cluster.specs.Positions.{AreLater};
+ghost use Rattle.seats.specs.Positions.{AreLater};
 ghost use Rattle.cluster.specs.OverBench.{HaveArrays, HaveRoom};
 ghost use Rattle.cluster.specs.Steps.{is_built as is_step_built, CanStep, Starts, Steps};
 ghost use Rattle.cluster.specs.Kept.{kept};
 
 mod begins;
+mod fetch;
+mod fetch_end;
 mod harm;
+mod reboot;
+mod source;
 mod state;
 mod steps;
 mod turns;
@@ -32,6 +36,7 @@ pub fn is_built(event: &Event) -> bool
 {
     match event {
         Event::Request { .. } | Event::Run { .. } | Event::RunAll | Event::End => true,
+        Event::Reboot { .. } | Event::Fetch { .. } => true,
         Event::Rogue { .. } | Event::Skip { .. } | Event::Wipe { .. } => true,
         Event::LieReply { .. } | Event::LieRoot { .. } | Event::LieItem { .. } => true,
         _ => false,

@@ -3,7 +3,6 @@
 
 mod cluster;
 mod lists;
-mod seat;
 
 pub use cluster::{Cluster, is_built};
 pub use cluster_model::Request;

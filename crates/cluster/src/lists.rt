@@ -28,7 +28,29 @@ pub fn push_point(points: &mut Vec<FaultPoint>, point: FaultPoint) -> Result<(),
     }
 }
 
-/// Puts the line and the fault point of a replica behind the others whose server failed in the first stage of an event.
+/// Puts the line and the fault point of a replica behind the others whose server failed at a stage of an event.
+pub fn push_fall_at(
+    lines: &mut Vec<Line>,
+    points: &mut Vec<FaultPoint>,
+    event: u64,
+    stage: u64,
+    r: u32,
+) -> Result<(), NoMemory>
+    ensures lines { OnOk result (lines.new.items ≡ lines.old.items ++ Down r ∷ []) }
+    ensures points { OnOk result (points.new.items
+        ≡ points.old.items ++ record { event = event; stage = stage; replica = r } ∷ []) }
+{
+    push_line(lines, Line::Down { r })?;
+    let point = FaultPoint {
+        event,
+        stage,
+        replica: r,
+    };
+    push_point(points, point)?;
+    Ok(())
+}
+
+/// The same of a server that failed in the first stage of an event.
 pub fn push_fall(
     lines: &mut Vec<Line>,
     points: &mut Vec<FaultPoint>,
@@ -39,14 +61,7 @@ pub fn push_fall(
     ensures points { OnOk result (points.new.items
         ≡ points.old.items ++ record { event = event; stage = 0; replica = r } ∷ []) }
 {
-    push_line(lines, Line::Down { r })?;
-    let point = FaultPoint {
-        event,
-        stage: 0,
-        replica: r,
-    };
-    push_point(points, point)?;
-    Ok(())
+    push_fall_at(lines, points, event, 0, r)
 }
 
 /// Puts fault points behind the others: all of them, or none.

@@ -1,4 +1,6 @@
 mod Expected
 mod Wordy
 mod Changed
-mod Made
+pub mod Serving
+pub mod Made
+pub mod Decided

@@ -45,15 +45,9 @@ use Rattle.recovery.proofs.Put.{is_put}
 use Rattle.fetch_laws.specs.Made.{AreApartFrom, EndsSo, GivesNone, FetchMade}
 use Rattle.fetch_laws.proofs.Expected.{next_fits}
 use Rattle.fetch_laws.proofs.Changed.{spells_good, valid_good, only_good}
+use Rattle.fetch_laws.proofs.Serving.{service_real}
 
--- the service has the real texts, and its good arrays are those of the texts
-service_real : (limits : Limits) → HasRealTexts (service limits)
-unfolding service
-service_real limits = record {
-  text = λ i e. refl;
-  nodes = record { digest = λ t. refl; node = λ l k ds. refl; parts = λ t. refl };
-}
-
+-- the service's good arrays are those of the texts
 service_good : (limits : Limits) → (service limits).good ≡ IsGood limits
 unfolding service
 service_good limits = refl

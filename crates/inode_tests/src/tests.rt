@@ -4,6 +4,7 @@ mod calls;
 mod costs;
 mod counting;
 mod large;
+mod nodes;
 mod short;
 
 ghost use Rattle.std.specs.Prelude.{IfOk};

@@ -1,6 +1,6 @@
 //! A replica that is being rebuilt.
 
-ghost use Rattle.std.specs.Prelude.{◌≡◌, ◌^◌, ℕ, List, Some, Ok, IfOk, OnErr, IsSome, length};
+ghost use Rattle.std.specs.Prelude.{◌≡◌, ◌+◌, ◌^◌, ◌<◌, ℕ, List, Some, Ok, IfOk, OnErr, IsSome, length};
 ghost use Rattle.abs_model.specs.declared.Entry.{Entry};
 ghost use Rattle.cluster_model.specs.Tree as tree;
 ghost use Rattle.state_transfer.specs.Stand.{next_in};
@@ -102,10 +102,11 @@ impl Rebuild {
         self.fetcher.accept(bytes)
     }
 
-    /// How many nodes and entries were got towards the target. It takes no memory.
+    /// How many nodes and entries were got towards the target: so few that the two can be added. It takes no memory.
     pub fn counts(&self) -> Counts
         ensures nodes { result.nodes ≡ self.now.fetch.nodes }
         ensures objects { result.objects ≡ length self.now.fetch.changes }
+        ensures few { result.nodes + result.objects < 2 ^ 32 }
     {
         self.fetcher.counts()
     }

@@ -1,23 +1,33 @@
 -- Replicas over as many entries as the array.
 use Rattle.std.proofs.Common.{◌≡◌, ℕ, zero, suc, ◌+◌, ◌<◌, ◌≤◌, Bool, true, false, cond, List, [], ◌∷◌, ◌++◌, length, get_or, refl, sym, ◌∙◌, ap, subst, arith}
-use Rattle.std.specs.Prelude.{◌==◌, ◌||◌}
+use Rattle.std.specs.Prelude.{◌==◌, ◌||◌, nat_le}
 use Rattle.std.specs.List.{All}
 use Rattle.std.proofs.lemmas.Bool.{eqb-true, eq-eqb}
 use Rattle.std.proofs.lemmas.List.{append-nil, append_assoc}
-use Rattle.std.proofs.lemmas.List.Elements.{All-nil, All-append, All-head, All-tail}
+use Rattle.std.proofs.lemmas.List.Elements.{All-nil, All-cons, All-append, All-head, All-tail, All-filter}
 use Rattle.nfs2_types.specs.declared.Limits.{Limits}
 use Rattle.abs_model.specs.declared.Entry.{Entry}
-use Rattle.abs_model.specs.Array.{empty_array}
+use Rattle.abs_model.specs.Array.{entry_at, empty_array}
+use Rattle.abs_text.specs.Text.{entry_text}
+use Rattle.cluster_model.specs.State.{Checkpoint}
 use Rattle.cluster_model.specs.Right.{is_told}
-use Rattle.cow_checkpoint.specs.Store.{Store, notices, all_noticed, takes}
+use Rattle.cow_checkpoint.specs.Store.{Store, fresh, saves, saves_newest, notices, all_noticed, takes, drops}
 use Rattle.replica.specs.declared.running.Replica.{Replica}
 use Rattle.replica.specs.Replicas.{IsOver, begun_at, begun, refreshed, told_of, takes_checkpoint, checked, is_due, harm, skipped, digests_of}
 use Rattle.replica.proofs.EmptyArray.{length-empty, length-digests_from}
 use Rattle.replica.proofs.Refreshed.{length-refreshed, refreshed_same}
 
+abbrev HasSize : ℕ → Checkpoint → Type 0
+HasSize n c = length c.digests ≡ n
+
 pub over_begun_at : (n place : ℕ) (ds : List (List ℕ)) → length ds ≡ n → IsOver n (begun_at place ds)
-over_begun_at n place ds size =
-    record { digests = size; size = size; told = All-nil (λ i. i < n); taken = omega arith }
+over_begun_at n place ds size = record {
+  digests = size;
+  size = size;
+  held = All-cons (HasSize n) (fresh place ds) [] size (All-nil (HasSize n));
+  told = All-nil (λ i. i < n);
+  taken = omega arith;
+}
 
 pub over_begun : (n : ℕ) → 1 ≤ n → IsOver n (begun n)
 over_begun n some = over_begun_at n 0 (digests_of (empty_array n))
@@ -50,6 +60,19 @@ size-all_noticed : (A : List Entry) (told : List ℕ) (s : Store) → (all_notic
 size-all_noticed A [] s = refl
 size-all_noticed A (i ∷ told) s = size-all_noticed A told (notices A i s)
 
+held_saved : (n i : ℕ) (text : List ℕ) (holds : List Checkpoint) → All (HasSize n) holds →
+    All (HasSize n) (saves_newest i text holds)
+held_saved n i text [] h = h
+held_saved n i text (c ∷ cs) h =
+    All-cons (HasSize n) (record c { saved = saves i text c.saved }) cs (All-head (HasSize n) c cs h)
+    (All-tail (HasSize n) c cs h)
+
+held_noticed : (n : ℕ) (A : List Entry) (told : List ℕ) (s : Store) → All (HasSize n) s.holds →
+    All (HasSize n) (all_noticed A told s).holds
+held_noticed n A [] s h = h
+held_noticed n A (i ∷ told) s h =
+    held_noticed n A told (notices A i s) (held_saved n i (entry_text i (entry_at A i)) s.holds h)
+
 pub taken-all_noticed : (A : List Entry) (told : List ℕ) (s : Store) → (all_noticed A told s).taken ≡ s.taken
 taken-all_noticed A [] s = refl
 taken-all_noticed A (i ∷ told) s = taken-all_noticed A told (notices A i s)
@@ -59,6 +82,7 @@ pub over_told : (n : ℕ) (A : List Entry) (told : List ℕ) (k : Replica) → I
 over_told n A told k h within = record {
   digests = h.digests;
   size = size-all_noticed A told k.store ∙ h.size;
+  held = held_noticed n A told k.store h.held;
   told = subst (All (λ i. i < n)) (sym (told-all_noticed A told k.store))
       (All-append (λ i. i < n) k.store.told told h.told within);
   taken = (let e = taken-all_noticed A told k.store in let t = h.taken in omega arith);
@@ -68,6 +92,8 @@ pub over_taken : (n : ℕ) (A : List Entry) (k : Replica) → IsOver n k → IsO
 over_taken n A k h = record {
   digests = length-refreshed A k.store.told k.tree ∙ h.digests;
   size = h.size;
+  held = All-cons (HasSize n) (fresh k.place (refreshed A k.store.told k.tree)) k.store.holds
+      (length-refreshed A k.store.told k.tree ∙ h.digests) h.held;
   told = All-nil (λ i. i < n);
   taken = omega arith;
 }
@@ -103,15 +129,31 @@ taken_is A old new indexes place same tree store lies harmed =
     }
 
 pub over_harmed : (n : ℕ) (k : Replica) → IsOver n k → IsOver n (harm k)
-over_harmed n k h = record { digests = h.digests; size = h.size; told = h.told; taken = h.taken }
+over_harmed n k h =
+    record { digests = h.digests; size = h.size; held = h.held; told = h.told; taken = h.taken }
+
+-- checkpoints are forgotten
+pub over_dropped : (n place : ℕ) (k : Replica) → IsOver n k → IsOver n (record k { store = drops place k.store })
+over_dropped n place k h = record {
+  digests = h.digests;
+  size = h.size;
+  held = All-filter (λ (c : Checkpoint). nat_le place c.place) (HasSize n) k.store.holds h.held;
+  told = h.told;
+  taken = h.taken;
+}
 
 -- a place that is passed with no request
 abbrev passing : ℕ → Replica → Replica
 passing place k = record k { place = place; harmed = true }
 
 pub over_passing : (n place : ℕ) (k : Replica) → k.place ≤ place → IsOver n k → IsOver n (passing place k)
-over_passing n place k le h =
-    record { digests = h.digests; size = h.size; told = h.told; taken = (let t = h.taken in omega arith) }
+over_passing n place k le h = record {
+  digests = h.digests;
+  size = h.size;
+  held = h.held;
+  told = h.told;
+  taken = (let t = h.taken in omega arith);
+}
 
 pub passing_is : (k : Replica) (place : ℕ) → place ≡ k.place + 1 → passing place k ≡ skipped k
 passing_is k place next = (

@@ -9,7 +9,7 @@ use Rattle.abs_text.specs.Text.{entry_text}
 use Rattle.partition_tree.specs.Digests.{IsRoot}
 use Rattle.cow_checkpoint.specs.Store as stores
 use Rattle.dispatch.specs.Answer.{Answer}
-use Rattle.cluster_model.specs.State.{lookup, or_else}
+use Rattle.cluster_model.specs.State.{Checkpoint, lookup, or_else}
 use Rattle.cluster_model.specs.Turns.{honest}
 use Rattle.replica.specs.declared.running.Replica.{Replica}
 
@@ -84,5 +84,6 @@ IsRootWord limits k (Some digest) = (is_due limits k.place ≡ true)
 pub record IsOver (n : ℕ) (k : Replica) : Type 0 where
   pub digests : length k.tree ≡ n
   pub size : k.store.size ≡ n
+  pub held : All (λ (c : Checkpoint). length c.digests ≡ n) k.store.holds
   pub told : All (λ i. i < n) k.store.told
   pub taken : k.store.taken ≤ k.place

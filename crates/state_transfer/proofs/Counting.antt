@@ -25,3 +25,11 @@ nodes_small w k =
     let a = next_small w k in
     let b = k.nodes in
     omega (arith, a, b)
+
+-- both together are
+pub counts_small : (w : Walk) → IsSound w → w.nodes + length w.changes.items < 2 ^ 32
+counts_small w k =
+    let a = next_small w k in
+    let b = k.nodes in
+    let d = k.changes in
+    omega (arith, a, b, d)

@@ -288,3 +288,12 @@ pub got_inside : (S : Service) (own : List (List ℕ)) (place : ℕ) (root : Lis
     HasGot (begun own place S.levels root) got end → All (λ g. IsItem S g.0) got
 got_inside S own place root got end h =
     items_inside S (begun own place S.levels root) got end h (ordered_begun own place S.levels root)
+
+-- what is next lies in the tree
+pub next_inside : (S : Service) (own : List (List ℕ)) (place levels : ℕ) (root : List ℕ) (got : Gots) (end : Fetch) →
+    levels ≡ S.levels → HasGot (begun own place levels root) got end → (x : Pair) (xs : List Pair) →
+    end.stand.rest ≡ x ∷ xs → IsItem S (item end.stand.level x.0)
+next_inside S own place levels root got end same h x xs rest =
+    let ordered = ordered_got levels (begun own place levels root) got end h (ordered_begun own place levels root) in
+    let first = subst (λ (r : List Pair). Upto (width levels end.stand.level) (nums r)) rest ordered.1.rest_in in
+    subst (λ (n : ℕ). (end.stand.level ≤ n) × (x.0 < 16 ^ (n - end.stand.level))) same (ordered.1.inside, first.0)

@@ -1,6 +1,6 @@
 //! A fetch from the root down.
 
-ghost use Rattle.std.specs.Prelude.{◌≡◌, ◌∷◌, [], None, IsSome, IfOk, OnErr, length};
+ghost use Rattle.std.specs.Prelude.{◌≡◌, ◌+◌, ◌^◌, ◌<◌, ◌∷◌, [], None, IsSome, IfOk, OnErr, length};
 ghost use Rattle.state_transfer.specs.Stand.{next_in};
 ghost use Rattle.state_transfer.specs.Fetch.{begun, IsBegun, IsAnswer};
 
@@ -84,10 +84,11 @@ impl Fetcher {
         self.walk.begin(&self.own, root);
     }
 
-    /// How many nodes and entries were got towards the target. It takes no memory.
+    /// How many nodes and entries were got towards the target: so few that the two can be added. It takes no memory.
     pub fn counts(&self) -> Counts
         ensures nodes { result.nodes ≡ self.now.nodes }
         ensures objects { result.objects ≡ length self.now.changes }
+        ensures few { result.nodes + result.objects < 2 ^ 32 }
     {
         Counts {
             nodes: self.walk.nodes,

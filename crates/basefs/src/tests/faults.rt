@@ -74,7 +74,7 @@ fn servers_fail_at_each_kind_of_call(rt: HostRuntime) -> Result<(), Fail> {
     Ok(())
 }
 
-/// Each kind of call that a record can bring about before there are records that reboot.
+/// Each kind of call that a request can bring about, and that of the start.
 const KINDS: [SrvCall; 16] = [
     SrvCall::Attr,
     SrvCall::SetAttr,

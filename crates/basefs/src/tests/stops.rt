@@ -4,6 +4,9 @@ use super::{LINES, REPLY, WHOLE, header, log_of, null_log, null_request};
 use crate::status::Status;
 use std::test::Fail;
 
+/// What a transfer prints of a replica that is live.
+const IDLE: &str = "idle 0 not-rebuilding\n";
+
 /// The null log up to some byte, and these bytes behind it, ends so, and writes so many bytes.
 fn ends(rt: &HostRuntime, keep: usize, more: &[u8]) -> Result<(Status, usize), Fail> {
     let mut log = null_log(rt.alloc())?;
@@ -54,14 +57,14 @@ fn logs_that_stop(rt: HostRuntime) -> Result<(), Fail> {
         (
             84,
             b"\0\0\0\x04\0\0\0\0".as_slice(),
-            Status::NotBuilt { at: 84 },
+            Status::BadLog { at: 92 },
             0,
         ),
         (
             84,
             b"\0\0\0\x05\0\0\0\0\0\0\0\x01".as_slice(),
-            Status::NotBuilt { at: 84 },
-            0,
+            Status::BadLog { at: 96 },
+            IDLE.len(),
         ),
         (
             84,

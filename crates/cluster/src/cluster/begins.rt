@@ -3,28 +3,27 @@
 ghost use Rattle.std.specs.Prelude.{◌≡◌, ◌<◌, ◌≤◌, ℕ, ◌++◌, ◌∷◌, [], OnOk, IfOk, vec_len};
 ghost use Rattle.conf_map.specs.Stands.{AreWithin};
 ghost use Rattle.partition_tree.specs.Digests.{IsTreeSize};
-ghost use Rattle.cluster.specs.Positions.{AreLater};
+ghost use Rattle.seats.specs.Positions.{AreLater};
 ghost use Rattle.cluster.specs.OverBench.{HaveRoom};
 ghost use Rattle.cluster.specs.Begun.{BeginsAt, Begun as HaveBegun};
 
 use crate::lists::{push_line, push_point};
-use crate::seat::fresh_at;
 use log_format::Line;
 use nfs2_types::{Limits, NoMemory};
-use replica::Replica;
+use seats::{Seat, fresh_at};
 use server_trait::{Bench, ConfTable, FaultPoint, FileServer, Srv, WrapErr};
 use std::alloc::Global;
 
-/// Replicas that began: those whose servers failed are none, and have their fault points and lines.
+/// Replicas that began: those whose servers failed are down, and have their fault points and lines.
 #[derive(Drop)]
 pub struct Begun {
-    pub seats: Vec<Option<Replica>>,
+    pub seats: Vec<Seat>,
     pub met: Vec<FaultPoint>,
     pub lines: Vec<Line>,
 }
 
 /// Puts a replica behind the others.
-fn push_seat(seats: &mut Vec<Option<Replica>>, seat: Option<Replica>) -> Result<(), NoMemory>
+fn push_seat(seats: &mut Vec<Seat>, seat: Seat) -> Result<(), NoMemory>
     ensures { OnOk result (seats.new.items ≡ seats.old.items ++ seat ∷ []) }
 {
     match seats.push(seat) {
@@ -70,9 +69,9 @@ fn begin(
     ensures downs { bench.new.downs ≡ bench.old.downs }
 {
     match fresh_at(alloc, bench, r as usize, limits) {
-        Ok(replica) => push_seat(&mut begun.seats, Some(replica))?,
+        Ok(replica) => push_seat(&mut begun.seats, Seat::Live(replica))?,
         Err(WrapErr::Down) => {
-            push_seat(&mut begun.seats, None)?;
+            push_seat(&mut begun.seats, Seat::Down)?;
             push_line(&mut begun.lines, Line::Down { r })?;
             let point = FaultPoint {
                 event: 0,

@@ -4,7 +4,8 @@ ghost use Rattle.std.specs.Prelude.{◌≡◌, ◌<◌, ◌^◌, List, [], IfOk,
 ghost use Rattle.server_trait.specs.declared.FaultPoint.{FaultPoint};
 ghost use Rattle.nfs2_types.specs.Times.{is_time};
 ghost use Rattle.log_format.specs.declared.Event.TheVariants.{Rogue, Skip, Wipe};
-ghost use Rattle.cluster.specs.Positions.{AreLater};
+ghost use Rattle.seats.specs.declared.Seat.TheVariants.{Down as DownSeat};
+ghost use Rattle.seats.specs.Positions.{AreLater};
 ghost use Rattle.cluster.specs.OverBench.{HaveArrays, HaveRoom};
 ghost use Rattle.cluster.specs.Kept.{kept};
 ghost use Rattle.cluster.specs.Turned.{TurnedBy, TurnStays, rogue_by, skip_by, first_slot, next_in};
@@ -12,11 +13,11 @@ ghost use Rattle.cluster.specs.Went.{Went, lie_event};
 
 use super::Cluster;
 use crate::lists::{push_fall, push_line};
-use crate::seat::{rogue_at, skip_at, wipe_at};
 use cluster_model::Request;
 use log_format::{IdleCause, Line};
 use nfs2_types::NoMemory;
 use replica::Lie;
+use seats::{Seat, rogue_at, skip_at, wipe_at};
 use server_trait::{Bench, FaultPoint, FileServer, Srv, WrapErr};
 use std::alloc::Global;
 
@@ -72,7 +73,7 @@ impl Cluster {
         requires replica { r < vec_len self.old.seats }
         requires few { self.old.events < 2 ^ 32 }
         requires time { is_time request.now.time ≡ true }
-        requires next { next_in (kept self.old) (slice_index_or self.old.seats.items r None) ≡ Ok next }
+        requires next { next_in (kept self.old) (slice_index_or self.old.seats.items r DownSeat) ≡ Ok next }
         ensures turned { OnOk result (TurnedBy ⟦<Srv as FileServer>⟧.state
             (rogue_by (kept self.old) r request.now) (first_slot r) (kept self.old) (kept self.new)
             bench.old.servers.items bench.new.servers.items bench.old.tables.items bench.new.tables.items
@@ -83,7 +84,7 @@ impl Cluster {
             bench.old.servers.items bench.new.servers.items }
         ensures downs { bench.new.downs ≡ bench.old.downs }
     {
-        let Some(mut replica) = self.seats[r as usize].take() else {
+        let Some(mut replica) = self.seats[r as usize].take_live() else {
             return Ok(());
         };
         let ran = rogue_at(
@@ -96,10 +97,10 @@ impl Cluster {
         );
         match ran {
             Ok(cast) => {
-                self.seats[r as usize] = Some(replica);
+                self.seats[r as usize] = Seat::Live(replica);
                 self.vote(alloc, lines, r, cast)?;
             }
-            // Its seat stays empty.
+            // Its seat is down.
             Err(WrapErr::Down) => push_fall(lines, met, self.events + 1, r)?,
             Err(WrapErr::NoMemory) => return Err(NoMemory),
         }
@@ -152,7 +153,7 @@ impl Cluster {
         requires room { HaveRoom ⟦<Srv as FileServer>⟧.state self.old.limits bench.old.servers.items }
         requires replica { r < vec_len self.old.seats }
         requires few { self.old.events < 2 ^ 32 }
-        requires next { next_in (kept self.old) (slice_index_or self.old.seats.items r None) ≡ Ok next }
+        requires next { next_in (kept self.old) (slice_index_or self.old.seats.items r DownSeat) ≡ Ok next }
         ensures turned { OnOk result (TurnedBy ⟦<Srv as FileServer>⟧.state (skip_by (kept self.old) r) (first_slot r)
             (kept self.old) (kept self.new)
             bench.old.servers.items bench.new.servers.items bench.old.tables.items bench.new.tables.items
@@ -163,16 +164,16 @@ impl Cluster {
             bench.old.servers.items bench.new.servers.items }
         ensures downs { bench.new.downs ≡ bench.old.downs }
     {
-        let Some(mut replica) = self.seats[r as usize].take() else {
+        let Some(mut replica) = self.seats[r as usize].take_live() else {
             return Ok(());
         };
         match skip_at(alloc, bench, r as usize, &mut replica, &self.limits) {
             Ok(root) => {
                 let place = replica.place;
-                self.seats[r as usize] = Some(replica);
+                self.seats[r as usize] = Seat::Live(replica);
                 self.vote_root(alloc, lines, r, place, root)?;
             }
-            // Its seat stays empty.
+            // Its seat is down.
             Err(WrapErr::Down) => push_fall(lines, met, self.events + 1, r)?,
             Err(WrapErr::NoMemory) => return Err(NoMemory),
         }
@@ -198,13 +199,13 @@ impl Cluster {
         ensures arrays { OnOk result (HaveArrays ⟦<Srv as FileServer>⟧.state (kept self.new)
             bench.now.servers.items bench.now.tables.items) }
     {
-        let Some(mut replica) = self.seats[r as usize].take() else {
+        let Some(mut replica) = self.seats[r as usize].take_live() else {
             let cause = IdleCause::NotLive;
             push_line(lines, Line::Idle { r, cause })?;
             return Ok(());
         };
         replica.lie(lie)?;
-        self.seats[r as usize] = Some(replica);
+        self.seats[r as usize] = Seat::Live(replica);
         Ok(())
     }
 
@@ -232,14 +233,14 @@ impl Cluster {
             bench.old.servers.items bench.new.servers.items }
         ensures downs { bench.new.downs ≡ bench.old.downs }
     {
-        let Some(mut replica) = self.seats[r as usize].take() else {
+        let Some(mut replica) = self.seats[r as usize].take_live() else {
             let cause = IdleCause::NotLive;
             push_line(lines, Line::Idle { r, cause })?;
             return Ok(());
         };
         match wipe_at(alloc, bench, r as usize, &mut replica, &self.limits) {
-            Ok(()) => self.seats[r as usize] = Some(replica),
-            // Its seat stays empty.
+            Ok(()) => self.seats[r as usize] = Seat::Live(replica),
+            // Its seat is down.
             Err(WrapErr::Down) => push_fall(lines, met, self.events + 1, r)?,
             Err(WrapErr::NoMemory) => return Err(NoMemory),
         }

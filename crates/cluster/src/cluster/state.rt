@@ -8,8 +8,8 @@ ghost use Rattle.cluster.specs.OverBench.{AreOver, is_size};
 
 use cluster_model::Request;
 use nfs2_types::{Digest, Limits, Word};
-use replica::Replica;
 use reply_vote::Votes;
+use seats::Seat;
 use std::collections::BTreeMap;
 
 /// A cluster: its limits, its requests, its replicas by number, their votes, what was decided, the stable place, and
@@ -18,8 +18,7 @@ use std::collections::BTreeMap;
 pub struct Cluster {
     pub(super) limits: Limits,
     pub(super) requests: Vec<Request>,
-    // A replica that is down is none.
-    pub(super) seats: Vec<Option<Replica>>,
+    pub(super) seats: Vec<Seat>,
     pub(super) votes: Votes,
     pub(super) decisions: BTreeMap<u32, Word>,
     // A root word is kept as the reply of its bytes.

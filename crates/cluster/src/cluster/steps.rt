@@ -3,7 +3,7 @@
 ghost use Rattle.std.specs.Prelude.{◌≡◌, ◌<◌, ◌+◌, ◌*◌, ◌^◌, ◌++◌, ◌∷◌, [], OnOk, IfOk, length, vec_len, true};
 ghost use Rattle.nfs2_types.specs.Times.{is_time};
 ghost use Rattle.log_format.specs.declared.Event.TheVariants.{Run, RunAll};
-ghost use Rattle.cluster.specs.Positions.{AreLater};
+ghost use Rattle.seats.specs.Positions.{AreLater};
 ghost use Rattle.cluster.specs.OverBench.{HaveArrays, HaveRoom};
 ghost use Rattle.cluster.specs.Kept.{kept};
 ghost use Rattle.cluster.specs.Went.{Went, end_line as end_line_of, end_lines};
@@ -15,20 +15,22 @@ use crate::lists::push_line;
 use cluster_model::Request;
 use log_format::{Event, Line};
 use nfs2_types::{Blob, NoMemory, Time};
-use replica::{Lie, Replica};
+use replica::Lie;
+use seats::Seat;
 use server_trait::{Bench, FaultPoint, FileServer, Srv};
 use std::alloc::Global;
 
 /// Where a replica stands.
-fn end_line(r: u32, seat: &Option<Replica>) -> Line
+fn end_line(r: u32, seat: &Seat) -> Line
     ensures { result ≡ end_line_of r seat.now }
 {
     match seat {
-        Some(replica) => Line::At {
+        Seat::Live(replica) => Line::At {
             r,
             place: replica.place,
         },
-        None => Line::AtDown { r },
+        Seat::Rebuilding(_) => Line::AtRebuilding { r },
+        Seat::Down => Line::AtDown { r },
     }
 }
 
@@ -61,6 +63,8 @@ impl Cluster {
             Event::Request { time, bytes, .. } => self.ask(time, bytes),
             Event::Run { r } => self.run(alloc, bench, met, lines, r),
             Event::RunAll => self.run_all(alloc, bench, met, lines),
+            Event::Reboot { r } => self.reboot(alloc, bench, met, lines, r),
+            Event::Fetch { r, n } => self.fetch(alloc, bench, met, lines, r, n),
             Event::End => self.end(lines),
             Event::Rogue { r, time, bytes } => {
                 self.rogue(alloc, bench, met, lines, r, &Request { time, bytes })

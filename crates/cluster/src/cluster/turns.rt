@@ -1,16 +1,17 @@
 //! Turns of replicas: each runs a request and casts its words.
 
 ghost use Rattle.std.specs.Prelude.{Ok, false, ◌≡◌, ◌<◌, ◌+◌, ◌^◌, suc, ℕ, None, Some, IfOk, OnOk, length, vec_len, slice_index_or};
-ghost use Rattle.cluster.specs.Positions.{AreLater};
+ghost use Rattle.seats.specs.declared.Seat.TheVariants.{Down as DownSeat};
+ghost use Rattle.seats.specs.Positions.{AreLater};
 ghost use Rattle.cluster.specs.OverBench.{HaveArrays, HaveRoom};
 ghost use Rattle.cluster.specs.Kept.{kept};
 ghost use Rattle.cluster.specs.Turned.{Going, RanRounds, IsQuietNow, round_slots, Turned, TurnStays, IsIdle, next_in};
 
 use super::Cluster;
 use crate::lists::{push_line, push_point};
-use crate::seat::run_at;
 use log_format::{IdleCause, Line};
 use nfs2_types::NoMemory;
+use seats::{Seat, run_at};
 use server_trait::{Bench, FaultPoint, FileServer, Srv, WrapErr};
 use std::alloc::Global;
 
@@ -18,9 +19,9 @@ impl Cluster {
     /// The place behind which a replica runs its next request, or why it has no turn.
     pub(super) fn next_of(&self, r: u32) -> Result<usize, IdleCause>
         requires { r < vec_len self.now.seats }
-        ensures { result ≡ next_in (kept self.now) (slice_index_or self.now.seats.items r None) }
+        ensures { result ≡ next_in (kept self.now) (slice_index_or self.now.seats.items r DownSeat) }
     {
-        let Some(replica) = &self.seats[r as usize] else {
+        let Seat::Live(replica) = &self.seats[r as usize] else {
             return Err(IdleCause::NotLive);
         };
         let place = replica.place;
@@ -86,7 +87,7 @@ impl Cluster {
         requires room { HaveRoom ⟦<Srv as FileServer>⟧.state self.old.limits bench.old.servers.items }
         requires replica { r < vec_len self.old.seats }
         requires few { self.old.events < 2 ^ 32 }
-        requires next { next_in (kept self.old) (slice_index_or self.old.seats.items r None) ≡ Ok next }
+        requires next { next_in (kept self.old) (slice_index_or self.old.seats.items r DownSeat) ≡ Ok next }
         ensures turned { OnOk result (Turned ⟦<Srv as FileServer>⟧.state (record { round = stage; replica = r })
             (kept self.old) (kept self.new)
             bench.old.servers.items bench.new.servers.items bench.old.tables.items bench.new.tables.items
@@ -97,7 +98,7 @@ impl Cluster {
             bench.old.servers.items bench.new.servers.items }
         ensures downs { bench.new.downs ≡ bench.old.downs }
     {
-        let Some(mut replica) = self.seats[r as usize].take() else {
+        let Some(mut replica) = self.seats[r as usize].take_live() else {
             return Ok(());
         };
         let ran = run_at(
@@ -110,11 +111,11 @@ impl Cluster {
         );
         match ran {
             Ok(cast) => {
-                self.seats[r as usize] = Some(replica);
+                self.seats[r as usize] = Seat::Live(replica);
                 self.vote(alloc, lines, r, cast)?;
             }
             Err(WrapErr::Down) => {
-                // Its seat stays empty.
+                // Its seat is down.
                 push_line(lines, Line::Down { r })?;
                 push_point(
                     met,

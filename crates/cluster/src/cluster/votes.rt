@@ -1,14 +1,15 @@
 //! Words that are cast, and what enough equal ones do.
 
-ghost use Rattle.std.specs.Prelude.{◌≡◌, ◌<◌, OnOk, IfOk, option_map, vec_len};
+ghost use Rattle.std.specs.Prelude.{◌≡◌, ◌<◌, OnOk, IfOk, vec_len};
 ghost use Rattle.cluster.specs.Kept.{kept};
-ghost use Rattle.cluster.specs.Casting.{Counted, Rooted, RootedIf, SeatsSee, Voted, sees};
+ghost use Rattle.cluster.specs.Casting.{Counted, Rooted, RootedIf, SeatsSee, Voted, seat_sees};
 
 use super::Cluster;
 use crate::lists::{copied, decision_line, push_line};
 use log_format::Line;
 use nfs2_types::{Blob, Digest, NoMemory, Word};
-use replica::{Cast, Replica};
+use replica::Cast;
+use seats::Seat;
 use std::alloc::Global;
 
 /// A root word as it is kept: the reply of its bytes.
@@ -20,16 +21,16 @@ fn root_word(alloc: Global, root: &Digest) -> Result<Word, NoMemory>
 }
 
 /// Tells a replica of a stable place, if it is live. It takes no memory.
-fn tell(seat: &mut Option<Replica>, place: u32)
-    ensures { seat.new ≡ option_map (sees place) seat.old }
+fn tell(seat: &mut Seat, place: u32)
+    ensures { seat.new ≡ seat_sees place seat.old }
 {
-    if let Some(replica) = seat {
+    if let Seat::Live(replica) = seat {
         replica.stable_at(place);
     }
 }
 
 /// Tells each live replica of a stable place. It takes no memory.
-fn tell_all(seats: &mut Vec<Option<Replica>>, place: u32)
+fn tell_all(seats: &mut Vec<Seat>, place: u32)
     ensures { SeatsSee place seats.old.items seats.new.items }
 {
     for r in 0..seats.len() {

@@ -1,6 +1,5 @@
 use Rattle.std.proofs.Common.{inl, refl, arith}
 use Rattle.cluster.proofs.Struck.{room_later}
-use Rattle.basefs.proofs.Places.{have_arrays}
 use Rattle.cluster.specs.Kept.{kept}
 use Rattle.basefs.proofs.Beginning.{begun_over, turned, turned_over, turned_most}
 use Rattle.basefs.proofs.run.run_log.Goals as goal
@@ -8,6 +7,7 @@ use Rattle.basefs.proofs.run.run_log.Goals as goal
 pub loop-turn-init : goal.loop-turn-init
 loop-turn-init g c = record {
   going = (c.in-Ok.ensures.begun (g.S.Source.left c.args.input.now)).0;
+  arrays = c.in-Ok.ensures.arrays;
   near = omega arith;
   counted = (c.in-Ok.ensures.begun (g.S.Source.left c.args.input.now)).1;
   reads = omega arith;
@@ -30,7 +30,7 @@ pub take_turn-requires-clause-place : goal.take_turn-requires-clause-place
 take_turn-requires-clause-place g c = omega (arith, c.loop-turn.invariant.near, c.loop-turn-test.true)
 
 pub take_turn-requires-clause-arrays : goal.take_turn-requires-clause-arrays
-take_turn-requires-clause-arrays g c = have_arrays _ c.loop-turn.invariant.going.here.is_state
+take_turn-requires-clause-arrays g c = c.loop-turn.invariant.arrays
 
 pub take_turn-requires-clause-room : goal.take_turn-requires-clause-room
 take_turn-requires-clause-room g c =
@@ -52,6 +52,7 @@ returns-in-Over-clause-writes g c = omega (arith, c.loop-turn.invariant.writes, 
 pub loop-turn-preserved : goal.loop-turn-preserved
 loop-turn-preserved g c = record {
   going = turned 16777216 c.loop-turn._turn c.loop-turn-test.true c.loop-turn.invariant.going c.in-Goes.ensures.turn;
+  arrays = c.in-Goes.ensures.arrays;
   near = omega (arith, c.loop-turn.invariant.near, c.in-Goes.ensures.near.0);
   counted = omega (arith, c.loop-turn.invariant.counted, c.in-Goes.ensures.near.1);
   reads = omega (arith, c.loop-turn.invariant.reads, c.in-Goes.ensures.reads);

@@ -1,5 +1,6 @@
 use Rattle.std.proofs.Common.{◌≡◌, ◌≤◌, ◌+◌, ◌-◌, ◌*◌, length}
 use Rattle.cluster.specs.Kept.{kept}
+use Rattle.cluster.specs.OverBench.{HaveArrays}
 use Rattle.basefs.specs.Setting.{setting}
 use Rattle.basefs.specs.Going.{Going}
 use Rattle.basefs.specs.Beginning.{all_records}
@@ -14,6 +15,8 @@ invariant-loop-turn g l = record {
       (setting (g.S.Source.left l.input) (g.O.Sink.written l.out) l.bench.servers.items l.bench.tables.items
       l.bench.downs.items)
       (kept l.cluster) (16777216 - l._turn) l.place;
+  arrays : HaveArrays (λ x. (goal.FileServer-dyn g (x.vtable, x.value)).state x.value) (kept l.cluster)
+      l.bench.servers.items l.bench.tables.items;
   near : l.place ≤ 24 + 65560 * l._turn;
   counted : (kept l.cluster).events ≡ l._turn;
   reads : g.S.Source.faults l.fn.input ≤ g.S.Source.faults l.input;

@@ -1,5 +1,5 @@
 use Rattle.std.proofs.Common.{◌≡◌, vec_len, []}
-use Rattle.cluster.specs.Positions.{AreLater}
+use Rattle.seats.specs.Positions.{AreLater}
 use Rattle.cluster.specs.Begun.{Begun}
 use Rattle.cluster.proofs.cluster.begins.begin_all.Given as goal
 

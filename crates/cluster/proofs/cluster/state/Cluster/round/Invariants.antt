@@ -1,5 +1,5 @@
 use Rattle.std.proofs.Common.{◌≡◌, false, vec_len}
-use Rattle.cluster.specs.Positions.{AreLater}
+use Rattle.seats.specs.Positions.{AreLater}
 use Rattle.cluster.specs.Kept.{kept}
 use Rattle.cluster.specs.Turned.{round_slots, Going, Idled}
 use Rattle.cluster.proofs.cluster.state.Cluster.round.Given as goal

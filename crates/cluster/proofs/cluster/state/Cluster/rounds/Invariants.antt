@@ -1,6 +1,6 @@
 use Rattle.std.proofs.Common.{◌≡◌, length, vec_len}
 use Rattle.cluster_model.specs.Turns.{slots}
-use Rattle.cluster.specs.Positions.{AreLater}
+use Rattle.seats.specs.Positions.{AreLater}
 use Rattle.cluster.specs.Kept.{kept}
 use Rattle.cluster.specs.Turned.{Going}
 use Rattle.cluster.proofs.cluster.state.Cluster.rounds.Given as goal

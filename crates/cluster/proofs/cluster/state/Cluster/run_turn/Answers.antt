@@ -1,14 +1,15 @@
-use Rattle.std.proofs.Common.{◌≡◌, ◌<◌, refl, sym, ap, ◌∙◌, subst, arith, length, slice_get, Some, None, Err}
+use Rattle.std.proofs.Common.{◌≡◌, ◌<◌, refl, sym, ap, ◌∙◌, subst, arith, length, slice_get, Some, Err}
 use Rattle.std.specs.Prelude.{slice_set}
 use Rattle.std.proofs.lemmas.List.{set-set, length-set}
-use Rattle.server_trait.proofs.TreeLaws.{some_same}
 use Rattle.replica.specs.Replicas.{IsOver}
 use Rattle.std.proofs.lemmas.Option.{slice_get_within}
 use Rattle.server_trait.specs.declared.WrapErr.TheVariants.{Down}
+use Rattle.seats.specs.declared.Seat.TheVariants.{Live as LiveSeat, Down as DownSeat}
+use Rattle.seats.proofs.Seats.{down_after, live_is, left_of_live, left_unlive}
 use Rattle.cluster.specs.Kept.{kept}
 use Rattle.cluster.specs.OverBench.{Kept}
 use Rattle.cluster.proofs.Casts.{sized_of}
-use Rattle.cluster.proofs.Turns.{next_is, next_here}
+use Rattle.cluster.proofs.Turns.{live_same, next_is, next_here}
 use Rattle.cluster.proofs.Seated.{over_set, voted_live, stays_voted}
 use Rattle.cluster.proofs.Struck.{later_at}
 use Rattle.cluster.proofs.TurnClauses.{at_index, turned_runs, turned_fails, stays_set, array_after}
@@ -19,9 +20,9 @@ run_at-ran-requires-clause-stands g c =
     let v = kept c.args.self.now in
     let r = c.args.r in
     let within : r < length v.seats = omega (arith, c.requires.replica, c.args.self.now.seats.ok.0) in
-    c.requires.arrays r c.in-Some.replica
-    (at_index v.seats r c.index_mut.result.now (Some c.in-Some.replica) within c.index_mut.ensures.value
-    (sym c.take.ensures.value ∙ c.in-Some.is))
+    c.requires.arrays r (LiveSeat c.in-Some.replica)
+    (at_index v.seats r c.index_mut.result.now (LiveSeat c.in-Some.replica) within c.index_mut.ensures.value
+    (live_is _ _ (sym c.take_live.ensures.live ∙ c.in-Some.is)))
 
 pub run_at-ran-requires-clause-over : goal.run_at-ran-requires-clause-over
 run_at-ran-requires-clause-over g c =
@@ -29,8 +30,8 @@ run_at-ran-requires-clause-over g c =
     let r = c.args.r in
     let within : r < length v.seats = omega (arith, c.requires.replica, c.args.self.now.seats.ok.0) in
     c.args.self.now.over r c.in-Some.replica
-    (at_index v.seats r c.index_mut.result.now (Some c.in-Some.replica) within c.index_mut.ensures.value
-    (sym c.take.ensures.value ∙ c.in-Some.is))
+    (at_index v.seats r c.index_mut.result.now (LiveSeat c.in-Some.replica) within c.index_mut.ensures.value
+    (live_is _ _ (sym c.take_live.ensures.live ∙ c.in-Some.is)))
 
 pub run_at-ran-requires-clause-place : goal.run_at-ran-requires-clause-place
 run_at-ran-requires-clause-place g c =
@@ -39,8 +40,8 @@ run_at-ran-requires-clause-place g c =
     let within : r < length v.seats = omega (arith, c.requires.replica, c.args.self.now.seats.ok.0) in
     let k = c.in-Some.replica in
     let h = next_here v r c.args.next (next_is v r c.args.next within c.requires.next) k
-    (at_index v.seats r c.index_mut.result.now (Some k) within c.index_mut.ensures.value
-    (sym c.take.ensures.value ∙ c.in-Some.is)) in
+    (at_index v.seats r c.index_mut.result.now (LiveSeat k) within c.index_mut.ensures.value
+    (live_is _ _ (sym c.take_live.ensures.live ∙ c.in-Some.is))) in
     let few = c.args.self.now.few in
     let place = h.place in
     let low = h.request in
@@ -54,15 +55,15 @@ returns-in_ok-vote-in-Ok-clause-turned g c =
     let k = c.in-Some.replica in
     let k' = c.run_at-ran.new.replica in
     let within : r < length v.seats = omega (arith, c.requires.replica, s.seats.ok.0) in
-    let at = at_index v.seats r c.index_mut.result.now (Some k) within c.index_mut.ensures.value
-    (sym c.take.ensures.value ∙ c.in-Some.is) in
+    let at = at_index v.seats r c.index_mut.result.now (LiveSeat k) within c.index_mut.ensures.value
+    (live_is _ _ (sym c.take_live.ensures.live ∙ c.in-Some.is)) in
     let h = next_here v r c.args.next (next_is v r c.args.next within c.requires.next) k at in
     turned_runs _ v _ _ _ _ r k c.index.result.now (sized_of v.limits s.within s.sizes) within at
     (subst (λ n. slice_get v.requests n ≡ Some c.index.result.now) h.place
     (at_index v.requests c.args.next c.index.result.now c.index.result.now h.request c.index.ensures refl)) h.near
     c.run_at-ran.ensures.servers c.run_at-ran.ensures.tables _ (kept c.vote.new.self) k' _ _ _ _ c.run_at-ran.result
     c.in-Ok.cast c.in-Ok.is (s.over r k at) c.in-Ok.ensures.over c.run_at-ran.ensures.watched c.in-Ok.ensures.passed
-    (ap (λ xs. let x : Kept = record v { seats = xs } in x) (set-set v.seats r c.take.new.self (Some k')))
+    (ap (λ xs. let x : Kept = record v { seats = xs } in x) (set-set v.seats r c.take_live.new.self (LiveSeat k')))
     c.in_ok-vote-in-Ok.ensures.voted refl
 
 pub returns-in_ok-vote-in-Ok-clause-stays : goal.returns-in_ok-vote-in-Ok-clause-stays
@@ -73,17 +74,27 @@ returns-in_ok-vote-in-Ok-clause-stays g c =
     let k = c.in-Some.replica in
     let k' = c.run_at-ran.new.replica in
     let within : r < length v.seats = omega (arith, c.requires.replica, s.seats.ok.0) in
-    let at = at_index v.seats r c.index_mut.result.now (Some k) within c.index_mut.ensures.value
-    (sym c.take.ensures.value ∙ c.in-Some.is) in
-    let mid : Kept = record v { seats = slice_set (slice_set v.seats r c.take.new.self) r (Some k') } in
+    let at = at_index v.seats r c.index_mut.result.now (LiveSeat k) within c.index_mut.ensures.value
+    (live_is _ _ (sym c.take_live.ensures.live ∙ c.in-Some.is)) in
+    let mid : Kept = record v { seats = slice_set (slice_set v.seats r c.take_live.new.self) r (LiveSeat k') } in
     stays_voted _ v mid (kept c.vote.new.self) _ _
-    (stays_set _ v mid _ _ _ _ r (Some k') c.requires.arrays c.requires.room
+    (stays_set _ v mid _ _ _ _ r (LiveSeat k') c.requires.arrays c.requires.room
     (length v.seats) (later_at _ _ _ r (slice_get_within _ r _ c.run_at-ran.ensures.watched.is_before)
     c.run_at-ran.ensures.servers c.run_at-ran.result c.run_at-ran.ensures.watched (length v.seats) within)
-    c.run_at-ran.ensures.servers c.run_at-ran.ensures.tables refl refl (set-set v.seats r c.take.new.self (Some k')) refl
-    (λ j e. array_after _ v c.index.result.now _ _ _ _ r k k' c.in-Ok.cast (c.requires.arrays r k at)
+    c.run_at-ran.ensures.servers c.run_at-ran.ensures.tables refl refl (set-set v.seats r c.take_live.new.self (LiveSeat k')) refl
+    (array_after _ v c.index.result.now _ _ _ _ r k k' c.in-Ok.cast (c.requires.arrays r (LiveSeat k) at)
     c.in-Ok.ensures.passed))
     (voted_live r c.in-Ok.cast mid (kept c.vote.new.self) _ _ c.in_ok-vote-in-Ok.ensures.voted)
+
+pub returns-in_ok-vote-in-Ok-clause-servers : goal.returns-in_ok-vote-in-Ok-clause-servers
+returns-in_ok-vote-in-Ok-clause-servers g c =
+    later_at _ _ _ c.args.r (slice_get_within _ c.args.r _ c.run_at-ran.ensures.watched.is_before)
+    c.run_at-ran.ensures.servers c.run_at-ran.result c.run_at-ran.ensures.watched _ c.requires.replica
+
+pub returns-in_err-vote-in-Ok-clause-servers : goal.returns-in_err-vote-in-Ok-clause-servers
+returns-in_err-vote-in-Ok-clause-servers g c =
+    later_at _ _ _ c.args.r (slice_get_within _ c.args.r _ c.run_at-ran.ensures.watched.is_before)
+    c.run_at-ran.ensures.servers c.run_at-ran.result c.run_at-ran.ensures.watched _ c.requires.replica
 
 pub returns-in_ok-push_point-in-Err-Down-clause-turned : goal.returns-in_ok-push_point-in-Err-Down-clause-turned
 returns-in_ok-push_point-in-Err-Down-clause-turned g c =
@@ -92,8 +103,8 @@ returns-in_ok-push_point-in-Err-Down-clause-turned g c =
     let r = c.args.r in
     let k = c.in-Some.replica in
     let within : r < length v.seats = omega (arith, c.requires.replica, s.seats.ok.0) in
-    let at = at_index v.seats r c.index_mut.result.now (Some k) within c.index_mut.ensures.value
-    (sym c.take.ensures.value ∙ c.in-Some.is) in
+    let at = at_index v.seats r c.index_mut.result.now (LiveSeat k) within c.index_mut.ensures.value
+    (live_is _ _ (sym c.take_live.ensures.live ∙ c.in-Some.is)) in
     let h = next_here v r c.args.next (next_is v r c.args.next within c.requires.next) k at in
     let e : c.run_at-ran.result ≡ Err c.in-Err-Down.field-0 = c.in-Err-Down.is in
     let f : c.in-Err-Down.field-0 ≡ Down = rw e at c.in-Err-Down.field-0-is in
@@ -102,7 +113,7 @@ returns-in_ok-push_point-in-Err-Down-clause-turned g c =
     (at_index v.requests c.args.next c.index.result.now c.index.result.now h.request c.index.ensures refl)) h.near
     c.run_at-ran.ensures.servers c.run_at-ran.ensures.tables _ _ _ _ _ _ c.run_at-ran.result (e ∙ ap Err f)
     c.run_at-ran.ensures.watched
-    (ap (λ o. let x : Kept = record v { seats = slice_set v.seats r o } in x) c.take.ensures.after)
+    (ap (λ o. let x : Kept = record v { seats = slice_set v.seats r o } in x) (c.take_live.ensures.left ∙ left_of_live _ _ (sym c.take_live.ensures.live ∙ c.in-Some.is)))
     c.in_ok-push_line-in-Err-Down.ensures c.in_ok-push_point-in-Err-Down.ensures refl
 
 pub returns-in_ok-push_point-in-Err-Down-clause-stays : goal.returns-in_ok-push_point-in-Err-Down-clause-stays
@@ -111,18 +122,23 @@ returns-in_ok-push_point-in-Err-Down-clause-stays g c =
     let v = kept s in
     let r = c.args.r in
     let within : r < length v.seats = omega (arith, c.requires.replica, s.seats.ok.0) in
-    stays_set _ v _ _ _ _ _ r None c.requires.arrays c.requires.room (length v.seats)
+    let k = c.in-Some.replica in
+    let at = at_index v.seats r c.index_mut.result.now (LiveSeat k) within c.index_mut.ensures.value
+    (live_is _ _ (sym c.take_live.ensures.live ∙ c.in-Some.is)) in
+    stays_set _ v _ _ _ _ _ r DownSeat c.requires.arrays c.requires.room (length v.seats)
     (later_at _ _ _ r (slice_get_within _ r _ c.run_at-ran.ensures.watched.is_before)
     c.run_at-ran.ensures.servers c.run_at-ran.result c.run_at-ran.ensures.watched (length v.seats) within)
     c.run_at-ran.ensures.servers c.run_at-ran.ensures.tables refl refl
-    (ap (slice_set v.seats r) c.take.ensures.after) refl (λ j e. absurd (cc))
+    (ap (slice_set v.seats r) (c.take_live.ensures.left ∙ left_of_live _ _ (sym c.take_live.ensures.live ∙ c.in-Some.is))) refl
+    (down_after _ v.limits _ _ _ _ r c.run_at-ran.result c.run_at-ran.ensures.watched c.run_at-ran.ensures.tables (LiveSeat k)
+    (c.requires.arrays r (LiveSeat k) at))
 
 pub invariant_of-self-in-Ok : goal.invariant_of-self-in-Ok
 invariant_of-self-in-Ok g c =
     let s = c.args.self.now in
     let r = c.args.r in
     let xs = s.seats.items in
-    let x = c.take.new.self in
+    let x = c.take_live.new.self in
     let k' = c.run_at-ran.new.replica in
     record {
       within = s.within;
@@ -131,10 +147,10 @@ invariant_of-self-in-Ok g c =
       interval = s.interval;
       few = s.few;
       times = s.times;
-      sized = length-set (slice_set xs r x) r (Some k') ∙ length-set xs r x ∙ s.sized;
-      over = over_set s.limits.n r (slice_set xs r x) (Some k')
-          (over_set s.limits.n r xs x s.over (λ k e. absurd (let gone = c.take.ensures.after in cc)))
-          (λ k e. subst (IsOver s.limits.n) (some_same refl e) c.in-Ok.ensures.over);
+      sized = length-set (slice_set xs r x) r (LiveSeat k') ∙ length-set xs r x ∙ s.sized;
+      over = over_set s.limits.n r (slice_set xs r x) (LiveSeat k')
+          (over_set s.limits.n r xs x s.over (λ k e. absurd (left_unlive _ k (sym c.take_live.ensures.left ∙ e))))
+          (λ k e. subst (IsOver s.limits.n) (live_same _ k e) c.in-Ok.ensures.over);
       voters = s.voters;
       root_voters = s.root_voters;
     }
@@ -144,7 +160,7 @@ invariant_of-self-in-Err-1 g c =
     let s = c.args.self.now in
     let r = c.args.r in
     let xs = s.seats.items in
-    let x = c.take.new.self in
+    let x = c.take_live.new.self in
     record {
       within = s.within;
       sizes = s.sizes;
@@ -153,7 +169,7 @@ invariant_of-self-in-Err-1 g c =
       few = s.few;
       times = s.times;
       sized = length-set xs r x ∙ s.sized;
-      over = over_set s.limits.n r xs x s.over (λ k e. absurd (let gone = c.take.ensures.after in cc));
+      over = over_set s.limits.n r xs x s.over (λ k e. absurd (left_unlive _ k (sym c.take_live.ensures.left ∙ e)));
       voters = s.voters;
       root_voters = s.root_voters;
     }

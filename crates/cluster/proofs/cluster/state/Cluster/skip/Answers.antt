@@ -24,5 +24,5 @@ returns-in_ok-skip_turn-in-Ok-clause-went g c =
     let small : c.args.r < 3 * c.args.self.now.limits.f + 1 =
     omega (arith, c.requires.replica, c.args.self.now.seats.ok.0, c.args.self.now.sized) in
     went_by _ _ _ (kept c.args.self.now) (kept c.skip_turn.new.self) _ _ _ _ _ _ refl (λ k spare e. absurd (cc))
-    (λ faults m. refl) (λ faults m. refl) c.args.r _ _ c.requires.none.0 c.requires.none.1 small
+    (λ faults m. (refl, refl)) (λ faults m. refl) c.args.r _ _ c.requires.none.0 c.requires.none.1 small
     c.in_ok-skip_turn-in-Ok.ensures.turned c.in_ok-skip_turn-in-Ok.ensures.stays.same

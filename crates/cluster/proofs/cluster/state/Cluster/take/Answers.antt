@@ -18,6 +18,14 @@ pub returns-in-Run-clause-went : goal.returns-in-Run-clause-went
 returns-in-Run-clause-went g c = went_of _ c.run.result _ _ (sym c.in-Run.is) (kept c.args.self.now)
     (kept c.run.new.self) _ _ _ _ _ _ c.run.ensures.went
 
+pub returns-in-Reboot-clause-went : goal.returns-in-Reboot-clause-went
+returns-in-Reboot-clause-went g c = went_of _ c.reboot.result _ _ (sym c.in-Reboot.is) (kept c.args.self.now)
+    (kept c.reboot.new.self) _ _ _ _ _ _ c.reboot.ensures.went
+
+pub returns-in-Fetch-clause-went : goal.returns-in-Fetch-clause-went
+returns-in-Fetch-clause-went g c = went_of _ c.fetch.result _ _ (sym c.in-Fetch.is) (kept c.args.self.now)
+    (kept c.fetch.new.self) _ _ _ _ _ _ c.fetch.ensures.went
+
 pub returns-in-End-clause-went : goal.returns-in-End-clause-went
 returns-in-End-clause-went g c = went_of _ c.end.result _ _ (sym c.in-End.is) (kept c.args.self.now)
     (kept c.args.self.now) _ _ _ _ _ _

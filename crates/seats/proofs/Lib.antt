@@ -1,0 +1,4 @@
+pub mod Positions
+pub mod Rebuilding
+pub mod Served
+pub mod Seats

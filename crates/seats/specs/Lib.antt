@@ -1,0 +1,4 @@
+pub mod Positions
+pub mod Given
+pub mod Spare
+pub mod Seats
