@@ -1,5 +1,5 @@
--- The text of an entry as a format of items (RFC 4506, 4): a tag, the index, the generation, the kind, and what the kind
--- has.
+-- The text of an entry as a format of items (RFC 4506, 4): a tag, the index, the generation, the kind, and what the
+-- kind has.
 use Rattle.std.specs.Prelude.{ℕ, Bool, true, ◌&&◌, ◌||◌, ◌==◌, ◌-◌, nat_le, nat_lt, if◌then◌else◌, List, [], length, slice_get, Option, Some, None}
 use Rattle.nfs2_types.specs.declared.Time.{Time}
 use Rattle.nfs2_types.specs.Names.{is_name}

@@ -1,5 +1,5 @@
-//! The texts of entries and of the nodes of the digest tree: their definitions, that they tell entries apart, and how an
-//! entry's is written and read.
+//! The texts of entries and of the nodes of the digest tree: their definitions, that they tell entries apart, and how
+//! an entry's is written and read.
 #![tactic(auto)]
 
 mod error;

@@ -1,5 +1,5 @@
-//! The texts of the first two entries of the empty array, by hand, and texts with a wrong item, whose places follow from
-//! the format.
+//! The texts of the first two entries of the empty array, by hand, and texts with a wrong item, whose places follow
+//! from the format.
 
 use crate::{EntryErr, read_entry, write_entry};
 use abs_model::{Attr, Entry, Names, OPEN_MODE, Object};

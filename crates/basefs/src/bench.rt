@@ -19,7 +19,8 @@ fn is_small(header: &Header, most: ServerLimits) -> bool
 /// The first server that is too small.
 fn first_small(header: &Header, servers: &[Srv]) -> Option<u32>
     requires few { length servers.now < 2 ^ 32 }
-    ensures { result ≡ position_from (λ s. is_small_for header.now ((⟦<Srv as FileServer>⟧.state s).limits)) 0 servers.now }
+    ensures { result ≡
+        position_from (λ s. is_small_for header.now ((⟦<Srv as FileServer>⟧.state s).limits)) 0 servers.now }
 {
     for r in 0..servers.len() {
         if is_small(header, servers[r].limits()) {

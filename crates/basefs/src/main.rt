@@ -69,8 +69,9 @@ fn run_over(rt: &HostRuntime, words: &[String], bench: &mut Bench) -> Result<Sta
     ))
 }
 
-/// Makes the bench, and runs the program over it. Its servers are of three kinds in turn: one of inodes on a medium in memory,
-/// one with a log on such a medium, and one that keeps whole paths. The status is an error where the program was not run.
+/// Makes the bench, and runs the program over it. Its servers are of three kinds in turn: one of inodes on a medium in
+/// memory, one with a log on such a medium, and one that keeps whole paths. The status is an error where the program
+/// was not run.
 fn start(rt: &HostRuntime) -> Result<Status, Status> {
     let words = words(rt)?;
     let alloc = rt.alloc();

@@ -65,5 +65,6 @@ pub record Begun {X : Type 0} (state : X → Server) (limits : Limits) (n : ℕ)
   pub struck : AreStruckBy state ls servers servers'
   pub size : length servers' ≡ length servers
   pub begins : (faults : Faults) → FailAs faults (round_slots 0 n) faults_are → (r : ℕ) → r < n →
-      SeatBegins state limits (faults 0 r) (slice_index_or seats r DownSeat) (slice_get servers' r) (slice_get tables' r)
+      SeatBegins state limits (faults 0 r) (slice_index_or seats r DownSeat) (slice_get servers' r)
+      (slice_get tables' r)
   pub said : (faults : Faults) → FailAs faults (round_slots 0 n) faults_are → ls ≡ begin_lines faults n

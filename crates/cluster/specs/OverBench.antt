@@ -21,8 +21,8 @@ use Rattle.seats.specs.Positions.{StandsAt, HasRoomAt}
 use Rattle.seats.specs.Seats.{HasArray}
 
 -- what a cluster keeps: its limits, the requests, its replicas by number, the words that they cast, the decided word of
--- each place, the root words that they cast, each as the reply of its bytes, the stable place and its root, and how many
--- events it stepped
+-- each place, the root words that they cast, each as the reply of its bytes, the stable place and its root, and how
+-- many events it stepped
 pub record Kept : Type 0 where
   pub limits : Limits
   pub requests : List Request

@@ -30,8 +30,8 @@ AreStruckBy {X} state ls servers servers' = (s : ℕ) (x y : X) → slice_get se
     slice_get servers' s ≡ Some y → IsLater X ServerLimits (λ z. (state z).faults) (λ z. (state z).limits)
     (strikes_in s (below (length servers)) (flat_map failed_of ls)) x y
 
--- From each state that cluster and bench stood for, what the model does leads to one that they stand for, and prints these
--- lines, where the server fails at this turn as it did.
+-- From each state that cluster and bench stood for, what the model does leads to one that they stand for, and prints
+-- these lines, where the server fails at this turn as it did.
 pub record TurnedBy {X : Type 0} (state : X → Server) (does : Faults → Moment → Moment) (t : Slot) (old new : Kept)
     (servers servers' : List X) (tables tables' : List ConfTable) (met met' : List FaultPoint) (ls ls' : List Line)
     : Type 0 where
@@ -80,8 +80,8 @@ pub record TurnStays {X : Type 0} (state : X → Server) (old new : Kept) (serve
   pub arrays : HaveArrays state new servers' tables'
   pub room : HaveRoom state old.limits servers'
 
--- what a replica may run next, by its place, or why it has no turn: it is not live, has run all requests, or stands too far
--- behind the stable place
+-- what a replica may run next, by its place, or why it has no turn: it is not live, has run all requests, or stands too
+-- far behind the stable place
 abbrev pub next_in : Kept → Seat → Result ℕ IdleCause
 next_in c DownSeat = Err NotLive
 next_in c (RebuildingSeat b) = Err NotLive

@@ -23,8 +23,8 @@ pub fn whole_runs()
         (ms : List Moment) → LooseRun S servers downs events ms → UptoApart S nothing (IsAsPromised S) ms }
 {}
 
-/// Where no record harms, each moment of a run is right, whatever servers fail; no place waits for a decision that f + 1
-/// live replicas have run, and no checkpoint waits to be stable that 2f + 1 live replicas have taken.
+/// Where no record harms, each moment of a run is right, whatever servers fail; no place waits for a decision that f +
+/// 1 live replicas have run, and no checkpoint waits to be stable that 2f + 1 live replicas have taken.
 pub fn calm_runs()
     ensures { (T : Tested) → let S = tested T in IsOrderly S →
         (servers : ℕ) (downs : List FaultPoint) (events : List Event) → All IsHarmless events →

@@ -98,7 +98,8 @@ fn first_table(alloc: Global, export: Place, n: u32) -> Result<ConfTable, AllocE
     ensures rows { IfOk result (λ table.
         table.rows.items ≡ export_row export.handle export.number ∷ replicate (n - 1) unused_row) }
     ensures by_handle { IfOk result (λ table. (q : List ℕ) →
-        ordered.get (slice_cmp nat_cmp) table.by_handle q ≡ cond (is_eq (slice_cmp nat_cmp export.handle q)) (Some 0) None) }
+        ordered.get (slice_cmp nat_cmp) table.by_handle q ≡
+        cond (is_eq (slice_cmp nat_cmp export.handle q)) (Some 0) None) }
     ensures used { IfOk result (λ table. table.used ≡ 0) }
     ensures lowest { IfOk result (λ table. table.lowest ≡ 0) }
 {

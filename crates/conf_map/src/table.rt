@@ -56,8 +56,8 @@ fn first_free(rows: &[ConfEntry]) -> Option<usize>
         .position(|row| row.handle.is_none() && row.generation < u32::MAX)
 }
 
-/// The lowest null row whose generation can rise, or `None` where there is none. It takes no memory, and looks at no row
-/// below the table's `lowest`.
+/// The lowest null row whose generation can rise, or `None` where there is none. It takes no memory, and looks at no
+/// row below the table's `lowest`.
 pub fn lowest_null(table: &ConfTable) -> Option<u32>
     requires size { length table.now.rows.items < 2 ^ 32 }
     requires none_below { NoneFreeBelow table.now.lowest table.now.rows.items }

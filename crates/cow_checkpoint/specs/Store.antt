@@ -1,5 +1,5 @@
--- A store of checkpoints by what it keeps: of each checkpoint its digests at once, and texts as they are about to change.
--- A checkpoint, what is told, and what is held of it are those of the model of a cluster.
+-- A store of checkpoints by what it keeps: of each checkpoint its digests at once, and texts as they are about to
+-- change. A checkpoint, what is told, and what is held of it are those of the model of a cluster.
 use Rattle.std.specs.Prelude.{ℕ, ◌≡◌, ◌≤◌, ◌&&◌, nat_lt, cond, if◌then◌else◌, List, [], ◌∷◌, ◌++◌, length, All, Option, Some, None, IsSomeAnd}
 use Rattle.std.specs.List.Sorted.{IsStrictlySortedBy}
 use Rattle.std.specs.Ordering.{nat_cmp}
@@ -93,8 +93,8 @@ abbrev pub IsExact : List ℕ → List Checkpoint → Type 0
 IsExact told [] = Unit {0}
 IsExact told (c ∷ cs) = (i : ℕ) → has (lookup i c.saved) ≡ is_told i told
 
--- places fall, none lies above that of the newest checkpoint taken, each checkpoint has a digest for each text, and under
--- the newest exactly what is told is saved
+-- places fall, none lies above that of the newest checkpoint taken, each checkpoint has a digest for each text, and
+-- under the newest exactly what is told is saved
 pub record IsKept (s : Store) : Type 0 where
   pub ordered : IsNewestFirst s.holds
   pub passed : All (λ (c : Checkpoint). c.place ≤ s.taken) s.holds

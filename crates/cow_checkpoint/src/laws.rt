@@ -9,8 +9,8 @@ ghost use Rattle.cluster_model.specs.Right.{is_told};
 ghost use Rattle.conf_map.specs.Notice.{NoticedAll};
 ghost use Rattle.cow_checkpoint.specs.Store.{Store, notices, all_noticed, IsCovered};
 
-/// Held texts stay: where an array changes at most at indexes that were told before, each text held at a place not above
-/// that of the newest checkpoint is held there again.
+/// Held texts stay: where an array changes at most at indexes that were told before, each text held at a place not
+/// above that of the newest checkpoint is held there again.
 pub fn held_texts_stay()
     ensures { (A B : List Entry) (told : List ℕ) (s : Store) (place index : ℕ) → IsCovered place s.holds →
         (is_told index told ≡ false →

@@ -26,8 +26,8 @@ use std::collections::BTreeSet;
 use std::marker::Model;
 use std::rc::RcSlice;
 
-/// Checkpoints of a replica: their digests, and the texts that have changed since. It is told of each object before that
-/// is changed, and saves the object's text then, once for each checkpoint.
+/// Checkpoints of a replica: their digests, and the texts that have changed since. It is told of each object before
+/// that is changed, and saves the object's text then, once for each checkpoint.
 #[derive(Drop)]
 pub struct CheckpointStore {
     alloc: Global,

@@ -33,8 +33,8 @@ GivesNone S p f (Live l) = (x : ℕ × List ℕ) (xs : List (ℕ × List ℕ)) (
 GivesNone S p f Down = Unit {0}
 GivesNone S p f (Rebuilding b) = Unit {0}
 
--- What the code did in a Fetch of r of at most n items at the moment m, where r has what b says: which items it got, from
--- whom, and how it ended. Last is what it keeps at the end.
+-- What the code did in a Fetch of r of at most n items at the moment m, where r has what b says: which items it got,
+-- from whom, and how it ended. Last is what it keeps at the end.
 pub record FetchMade (limits : Limits) (faults : Faults) (r n : ℕ) (m : Moment) (b : Fetching)
     (items : List (Item × List ℕ)) (end : FetchEnd) : Type 0 where
   pub last : Rebuilt
@@ -43,7 +43,8 @@ pub record FetchMade (limits : Limits) (faults : Faults) (r n : ℕ) (m : Moment
   pub fetched : HasFetched b.array ((aimed m.state.stable b).got ++ items) last
   pub given : All (IsGiven (service limits) m.state r) items
   pub ended : EndsSo limits b.array last end
-  -- where fewer than n were got and something is missing, each other replica whose server did not fail was asked in vain
+  -- where fewer than n were got and something is missing, each other replica whose server did not fail was asked in
+  -- vain
   pub asked : length items ≢ n → IsSome (next_in last.fetch.stand) → (j : ℕ) → j < length m.state.replicas → j ≢ r →
       ((stage : ℕ) → stage ≤ length items → faults stage j ≡ false) →
       GivesNone (service limits) m.state.stable last.fetch (replica m.state j).condition

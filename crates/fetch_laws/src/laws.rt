@@ -15,8 +15,8 @@ ghost use Rattle.state_transfer.specs.Fetch.{Fits};
 ghost use Rattle.recovery.specs.Rebuilt.{Rebuilt, HasFetched};
 ghost use Rattle.fetch_laws.specs.Made.{FetchMade, AreApartFrom};
 
-/// A source that has an array with the root that was aimed at has, of the item that is next, a text that is taken, where
-/// no text that was got shares a digest with another one of that array.
+/// A source that has an array with the root that was aimed at has, of the item that is next, a text that is taken,
+/// where no text that was got shares a digest with another one of that array.
 pub fn true_items_fit()
     ensures { (limits : Limits) → IsSized limits → limits.t ≤ 16777216 → let S = service limits in
         (A c : List Entry) → IsGood limits A → IsGood limits c →

@@ -73,8 +73,8 @@ impl<M: Medium> InodeTree<M> {
         ensures whole { OnOk result (IsWhole M.content M.size self.new) }
         ensures node { OnOk result (tree_in M.content self.new ≡ unnamed (tree_in M.content self.old)
             ((tables_of self.old.tables).handle dir) name.now) }
-        ensures rows { OnOk result (Unnames (tables_of self.old.tables) (tables_of self.new.tables) dir name.now place.inode
-            (is_dir_kind kind)) }
+        ensures rows { OnOk result (Unnames (tables_of self.old.tables) (tables_of self.new.tables) dir name.now
+            place.inode (is_dir_kind kind)) }
         ensures others { OnOk result ((j : ℕ) → j < self.old.store.inodes → j ≢ dir →
             file_in M.content self.new.store j ≡ file_in M.content self.old.store j) }
         ensures first { OnOk result (M.content self.new.store.medium 0 ≡ M.content self.old.store.medium 0) }

@@ -118,8 +118,9 @@ impl InodeTables {
     pub fn find(&self, handle: &Handle) -> Option<(u32, Kind)>
         ensures { MatchOption result ((i : ℕ) → IsSome ((tables_of self.now).kind i) →
             (tables_of self.now).handle i ≢ handle.now)
-            (λ found. (found.0 < (tables_of self.now).counts.inodes) × ((tables_of self.now).handle found.0 ≡ handle.now) ×
-            ((tables_of self.now).kind found.0 ≡ Some found.1)) }
+            (λ found. (found.0 < (tables_of self.now).counts.inodes)
+            × ((tables_of self.now).handle found.0 ≡ handle.now)
+            × ((tables_of self.now).kind found.0 ≡ Some found.1)) }
     {
         let inode = u32::from_be_bytes([handle[0], handle[1], handle[2], handle[3]]);
         if inode >= self.free.blocks() {

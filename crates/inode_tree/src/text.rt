@@ -57,7 +57,8 @@ impl<M: Medium> InodeTree<M> {
         ensures whole { OnOk result (IsWhole M.content M.size self.new) }
         ensures node { OnOk result (tree_in M.content self.new ≡ edited (tree_in M.content self.old)
             ((tables_of self.old.tables).handle inode) (with_text text.now)) }
-        ensures rows { OnOk result (Resizes (tables_of self.old.tables) (tables_of self.new.tables) 0 (length text.now)) }
+        ensures rows { OnOk result
+            (Resizes (tables_of self.old.tables) (tables_of self.new.tables) 0 (length text.now)) }
         ensures first { OnOk result (M.content self.new.store.medium 0 ≡ M.content self.old.store.medium 0) }
         ensures limits { self.new.limits ≡ self.old.limits }
         ensures area { self.new.store.area ≡ self.old.store.area }

@@ -24,8 +24,8 @@ module _ {M : Type 0} (content : M → ℕ → List ℕ) (size faults : M → �
     pub kept : up ≡ true → IsKept content size new
 
   -- a call on a tree of a log answers as a server's call may, and leaves the tree for the next
-  pub record Does {T : Type 0} (call : Server → Result T SrvErr → Server → Type 0) (old : LogTree M) (r : Result T SrvErr)
-      (new : LogTree M) : Type 0 where
+  pub record Does {T : Type 0} (call : Server → Result T SrvErr → Server → Type 0) (old : LogTree M)
+      (r : Result T SrvErr) (new : LogTree M) : Type 0 where
     pub answers : call (server_of true old) r (server_of (stands r) new)
     pub stays : Stays (stands r) old new
 

@@ -120,7 +120,8 @@ pub(crate) fn find_leaf<M: Medium>(tree: &LogTree<M>, leaf: &Handle) -> Result<F
 pub(crate) fn find_link<M: Medium>(tree: &LogTree<M>, link: &Handle) -> Result<Found, SrvErr>
     requires { IsKept M.content M.size tree.now }
     ensures { let t = log_tree M.content M.size tree.now in
-        FindsAs (λ f. (link.now ≡ handle_of f.id) × IsSome (text_at t link.now)) (ContentErr text_in link.now t) result }
+        FindsAs (λ f. (link.now ≡ handle_of f.id) × IsSome (text_at t link.now)) (ContentErr text_in link.now t)
+        result }
 {
     match find(tree, link) {
         Some(found) if found.info.kind == Kind::Link => Ok(found),

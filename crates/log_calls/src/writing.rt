@@ -30,8 +30,8 @@ pub fn set_attr<M: Medium>(
     answered(tree.set_attr(&found.id, mode, uid, gid))
 }
 
-/// Puts bytes from the front of a piece, at least one, up to the end of a chunk, at an offset of a file, and answers how
-/// many. Errors: Stale, WrongKind, Refused where the offset lies past the end, and Full.
+/// Puts bytes from the front of a piece, at least one, up to the end of a chunk, at an offset of a file, and answers
+/// how many. Errors: Stale, WrongKind, Refused where the offset lies past the end, and Full.
 pub fn write<M: Medium>(
     tree: &mut LogTree<M>,
     file: &Handle,

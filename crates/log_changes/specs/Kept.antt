@@ -50,7 +50,8 @@ module _ {M : Type 0} (content : M → ℕ → List ℕ) (size : M → ℕ) wher
     pub large : IsLarge t.limits (size (log_medium t))
 
 -- what all changes share: limits and size stay, and a failure comes only where the medium's count rose
-pub record Changes {M T : Type 0} (size faults : M → ℕ) (old new : LogTree M) (result : Result T MediumErr) : Type 0 where
+pub record Changes {M T : Type 0} (size faults : M → ℕ) (old new : LogTree M) (result : Result T MediumErr)
+    : Type 0 where
   pub limits : new.limits ≡ old.limits
   pub size_is : size (log_medium new) ≡ size (log_medium old)
   pub cause : WriteHasCause (faults (log_medium old)) (faults (log_medium new)) result

@@ -27,8 +27,8 @@ fn write_and_read<M: Medium>(
     Ok((count, bytes))
 }
 
-/// Puts three bytes, fills the file up to 1,000 bytes, cuts it to 2, and fills it up to 4. The bytes of it then, and how
-/// many there were of 1,000.
+/// Puts three bytes, fills the file up to 1,000 bytes, cuts it to 2, and fills it up to 4. The bytes of it then, and
+/// how many there were of 1,000.
 fn fill_and_cut<M: Medium>(
     alloc: Global,
     store: &mut LogStore<M>,

@@ -13,7 +13,8 @@ use server_trait::NAME_BYTES;
 impl LogIndex {
     ghost use Rattle.log_index.specs.Memory.{memory_of};
 
-    /// A node is put, which uses so many bytes and has no names. Errors: NoMemory, also where a number would be too large.
+    /// A node is put, which uses so many bytes and has no names. Errors: NoMemory, also where a number would be too
+    /// large.
     pub fn add_node(&mut self, id: &NodeId, info: NodeInfo, bytes: u32) -> Result<(), NoMemory>
         ensures { OnOk result (AddsNode (memory_of self.old) id.now info bytes (memory_of self.new)) }
     {

@@ -5,9 +5,9 @@ ghost use Rattle.std.specs.Prelude.{◌≡◌, ◌+◌, ◌≤◌, IfSome, Some}
 use log_records::NodeId;
 use nfs2_types::Kind;
 
-/// What is kept of a node: its attributes; `size`, the bytes of a file or of a link's text, or the number of a directory's
-/// names; `links`, the number of names that lead to a file or a link, or of a directory's names that lead to directories;
-/// and `parent`, the directory of the name that leads to a directory.
+/// What is kept of a node: its attributes; `size`, the bytes of a file or of a link's text, or the number of a
+/// directory's names; `links`, the number of names that lead to a file or a link, or of a directory's names that lead
+/// to directories; and `parent`, the directory of the name that leads to a directory.
 #[derive(Clone, Copy, Debug, PartialEq, Eq)]
 pub struct NodeInfo {
     pub kind: Kind,

@@ -13,8 +13,8 @@ use server_trait::{ServerLimits, SrvErr};
 use std::alloc::Global;
 
 impl<M: Medium + Drop> LogServer<M> {
-    /// A server over a medium on which it makes no call. It takes no memory, and has no tree until a `wipe` or a `mount`
-    /// answers Ok.
+    /// A server over a medium on which it makes no call. It takes no memory, and has no tree until a `wipe` or a
+    /// `mount` answers Ok.
     pub fn new(alloc: Global, medium: M, limits: ServerLimits) -> LogServer<M>
         requires { IsLarge limits (M.size medium) }
         ensures { result ≡ record { up = false; limits = limits; medium = medium } }

@@ -69,7 +69,8 @@ abbrev pub KeepsOthers : Records → List ℕ → Records → Type 0
 KeepsOthers live key new = (k : List ℕ) → k ≢ key → find k new ≡ find k live
 
 -- what is read of the record that now stands under a key; there is one record more only where the key had none
-pub record Puts {X : Type 0} (read : List ℕ → X) (live : Records) (key : List ℕ) (value : X) (new : Records) : Type 0 where
+pub record Puts {X : Type 0} (read : List ℕ → X) (live : Records) (key : List ℕ) (value : X) (new : Records)
+    : Type 0 where
   pub here : option_map (λ r. read (value_of r)) (find key new) ≡ Some value
   pub more : length new ≤ length live + 1
   pub over : IsSome (find key live) → length new ≤ length live

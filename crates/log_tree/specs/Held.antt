@@ -130,8 +130,8 @@ abbrev pub has_place : Records → List ℕ → Bool
 has_place live r =
     if is_node r then length (key_of r) == 9
     else (if is_name r then is_dir live (id_of r) && nat_le 9 (length (key_of r)) && nat_le (length (key_of r)) 264
-    else (is_chunk r && bytes_eq (key_of r) (chunk_key (id_of r) (place_of r)) && is_leaf live (id_of r) && nat_lt (place_of r) 17477 && has_bytes r
-    && is_behind_full live r))
+    else (is_chunk r && bytes_eq (key_of r) (chunk_key (id_of r) (place_of r)) && is_leaf live (id_of r)
+    && nat_lt (place_of r) 17477 && has_bytes r && is_behind_full live r))
 
 -- so many names may lead to a directory
 abbrev pub most_names : List ℕ → ℕ

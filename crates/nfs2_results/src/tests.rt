@@ -168,8 +168,8 @@ fn refusals(rt: HostRuntime) -> Result<(), Fail> {
     all_both_ways(&rt, rt.alloc(), &procs, &stale, &[&[0, 0, 0, 70]], PLAIN)
 }
 
-// RFC 1094, 2.3.9 and 2.3.11: GETATTR 1, SETATTR 2 and WRITE 8 give attributes; LOOKUP 4, CREATE 9 and MKDIR 14 a handle
-// before them. 2.2.18: STATFS 17 gives five words.
+// RFC 1094, 2.3.9 and 2.3.11: GETATTR 1, SETATTR 2 and WRITE 8 give attributes; LOOKUP 4, CREATE 9 and MKDIR 14 a
+// handle before them. 2.2.18: STATFS 17 gives five words.
 #[test]
 fn attributes(rt: HostRuntime) -> Result<(), Fail> {
     let alloc = rt.alloc();

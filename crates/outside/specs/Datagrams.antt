@@ -16,6 +16,7 @@ Receives old new (Ok None) = (new ≡ old) × IfSome old (λ inbox. inbox ≡ []
 Receives old new (Err _) = new ≡ old
 
 -- a piece that is sent comes last, with the peer that it goes to
-abbrev pub Sends : {T : Type 0} → Option (List Datagram) → Option (List Datagram) → List ℕ → List ℕ → Result T LinkErr → Type 0
+abbrev pub Sends : {T : Type 0} → Option (List Datagram) → Option (List Datagram) → List ℕ → List ℕ →
+    Result T LinkErr → Type 0
 Sends old new to piece (Ok _) = new ≡ option_map (λ sent. sent ++ record { from = to; bytes = piece } ∷ []) old
 Sends old new to piece (Err _) = new ≡ old

@@ -12,7 +12,8 @@ use outside::{Failed, Source};
 use std::alloc::Global;
 use std::io::{BufReader, Read};
 
-/// A reader of the system as a source. It reads ahead into a buffer of 8,192 bytes, and hands out the bytes in their order.
+/// A reader of the system as a source. It reads ahead into a buffer of 8,192 bytes, and hands out the bytes in their
+/// order.
 #[derive(Drop)]
 pub struct StdSource<R: Read + Drop> {
     reader: BufReader<R>,

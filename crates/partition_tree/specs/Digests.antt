@@ -1,5 +1,5 @@
--- The tree of digests over a list of digests, for any number of levels. Level 0 has the digests of the list; the node of
--- a level with number k has those of the level below with numbers 16k to 16k + 15. A digest is SHA-256 (FIPS 180-4).
+-- The tree of digests over a list of digests, for any number of levels. Level 0 has the digests of the list; the node
+-- of a level with number k has those of the level below with numbers 16k to 16k + 15. A digest is SHA-256 (FIPS 180-4).
 use Rattle.std.specs.Prelude.{ℕ, zero, suc, ◌-◌, ◌*◌, ◌^◌, ◌<◌, ◌≤◌, ◌≡◌, List, [], ◌∷◌, get_or, set, map, length}
 use Rattle.sha2.specs.Sha256.{sha256}
 use Rattle.abs_text.specs.Text.{node_text}

@@ -1,5 +1,5 @@
--- How a tree is kept: the digests of level 0, behind them those of level 1, and so on, the root's last. Contracts inside
--- the crate and their proofs use it.
+-- How a tree is kept: the digests of level 0, behind them those of level 1, and so on, the root's last. Contracts
+-- inside the crate and their proofs use it.
 use Rattle.std.specs.Prelude.{ℕ, zero, suc, ◌+◌, ◌-◌, ◌^◌, ◌/◌, ◌<◌, ◌≤◌, ◌≡◌, List, [], ◌∷◌, ◌++◌, get_or, length}
 use Rattle.sha2.specs.Sha256.{sha256}
 use Rattle.partition_tree.specs.Digests.{node_over, most_levels}

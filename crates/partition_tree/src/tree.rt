@@ -233,8 +233,8 @@ impl Tree {
         Some(text_over(&self.kept, below, level, number))
     }
 
-    /// Puts texts in place of those of their indexes, in their order. Each costs at most a digest for itself and one for
-    /// each level. It takes no memory.
+    /// Puts texts in place of those of their indexes, in their order. Each costs at most a digest for itself and one
+    /// for each level. It takes no memory.
     pub fn update<L: Ledger>(&mut self, changed: &[Changed], steps: &mut Steps<L>)
         requires { All (λ c. c.index < length self.old) changed.now }
         ensures digests { self.new ≡ updated changed.now self.old }

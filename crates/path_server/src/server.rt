@@ -11,8 +11,8 @@ use nfs2_types::{Handle, NoMemory};
 use server_trait::{FileServer, Listed, NodeAttr, ServerLimits, SrvErr};
 use std::alloc::Global;
 
-/// A server that keeps its tree in memory. Handles are serial numbers behind the number of starts. It never answers Fault,
-/// and Full only where the tree would pass its limits.
+/// A server that keeps its tree in memory. Handles are serial numbers behind the number of starts. It never answers
+/// Fault, and Full only where the tree would pass its limits.
 #[derive(Drop)]
 pub struct PathServer {
     tree: PathTree,

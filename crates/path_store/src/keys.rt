@@ -92,7 +92,8 @@ impl PathKeys {
         Ok(found)
     }
 
-    /// A path and all that are under it, with their keys, the last first. Its cost is in their number. Errors: NoMemory.
+    /// A path and all that are under it, with their keys, the last first. Its cost is in their number. Errors:
+    /// NoMemory.
     pub fn under(&self, alloc: Global, top: &Path) -> Result<Vec<PathKey>, NoMemory>
         ensures { IfOk result (λ found. AreUnder top.now self.now (each entry_of found.items)) }
     {

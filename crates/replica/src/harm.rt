@@ -46,8 +46,8 @@ impl Replica {
         Ok(cast)
     }
 
-    /// Passes a place with no request, and may be wrong from then on. It casts no reply word; a checkpoint is taken where
-    /// one is due, and its root word is given. `Down`: the server failed.
+    /// Passes a place with no request, and may be wrong from then on. It casts no reply word; a checkpoint is taken
+    /// where one is due, and its root word is given. `Down`: the server failed.
     pub fn skip(
         &mut self,
         alloc: Global,
@@ -60,8 +60,8 @@ impl Replica {
         requires within { AreWithin limits.now }
         requires place { self.old.place + 1 < 2 ^ 32 }
         requires interval { 0 < limits.now.k }
-        ensures skipped { IfOk result (λ root. Skipped limits.now (state server.old).tree (state server.new).tree table.now
-            self.old self.new root) }
+        ensures skipped { IfOk result (λ root. Skipped limits.now (state server.old).tree (state server.new).tree
+            table.now self.old self.new root) }
         ensures over { OnOk result (IsOver limits.now.n self.new) }
         ensures watched { Watched (state server.old) (state server.new) result }
     {
@@ -81,8 +81,8 @@ impl Replica {
         Ok(())
     }
 
-    /// Wipes the server, and goes on as if nothing had been: digests, checkpoints and what is told stay. It may be wrong
-    /// from then on. `Down`: the server failed.
+    /// Wipes the server, and goes on as if nothing had been: digests, checkpoints and what is told stay. It may be
+    /// wrong from then on. `Down`: the server failed.
     pub fn wipe(
         &mut self,
         alloc: Global,

@@ -22,8 +22,8 @@ use partition_tree::Tree;
 use server_trait::{ConfTable, Srv, WrapErr};
 use std::alloc::Global;
 
-/// A live replica: how many requests it has passed, the digests that it believes of its array, its checkpoints, its lies,
-/// and whether it was harmed. Its array is what its server and table stand for; it keeps none.
+/// A live replica: how many requests it has passed, the digests that it believes of its array, its checkpoints, its
+/// lies, and whether it was harmed. Its array is what its server and table stand for; it keeps none.
 #[derive(Drop)]
 pub struct Replica {
     pub place: u32,
@@ -33,8 +33,8 @@ pub struct Replica {
     pub harmed: bool,
 }
 
-/// The words that a replica casts for a place, the first place being 1: the reply word, and where a checkpoint was taken
-/// the root of its digests; or its lies about them.
+/// The words that a replica casts for a place, the first place being 1: the reply word, and where a checkpoint was
+/// taken the root of its digests; or its lies about them.
 #[derive(Debug, Drop)]
 pub struct Cast {
     pub place: u32,

@@ -66,8 +66,8 @@ impl Seat {
         }
     }
 
-    /// Offers the bytes for the item that is to be got next. Whether they were taken: exactly where they are the text of
-    /// that item.
+    /// Offers the bytes for the item that is to be got next. Whether they were taken: exactly where they are the text
+    /// of that item.
     pub fn give(&mut self, bytes: &[u8]) -> Result<bool, NoMemory>
         ensures answered { IfOk result (Answered bytes.now self.old self.new) }
         ensures live { live_in self.new ≡ live_in self.old }

@@ -129,8 +129,8 @@ pub trait FileServer: Drop {
         requires { HasTree (state self.old) }
         ensures { ReadLink (state self.old) link.now result (state self.new) };
 
-    /// Puts bytes from the front of a piece, at least one, at an offset of a file, and answers how many. A gap before the
-    /// offset is zeros. Errors: Stale, WrongKind, Refused where the offset lies past the end, and Full.
+    /// Puts bytes from the front of a piece, at least one, at an offset of a file, and answers how many. A gap before
+    /// the offset is zeros. Errors: Stale, WrongKind, Refused where the offset lies past the end, and Full.
     fn write(&mut self, file: &Handle, offset: u32, piece: &[u8]) -> Result<u32, SrvErr>
         requires tree { HasTree (state self.old) }
         requires some { 1 ≤ length piece.now }
@@ -191,9 +191,9 @@ pub trait FileServer: Drop {
         requires name { is_name name.now ≡ true }
         ensures { Rmdir (state self.old) dir.now name.now result (state self.new) };
 
-    /// Moves a name of one directory to a name of another. What the second name led to is replaced; where both names are
-    /// of one node nothing changes. Errors: Stale, NotDir, NoEnt, WrongKind, NotEmpty, Subtree, and Refused where the
-    /// second name is there.
+    /// Moves a name of one directory to a name of another. What the second name led to is replaced; where both names
+    /// are of one node nothing changes. Errors: Stale, NotDir, NoEnt, WrongKind, NotEmpty, Subtree, and Refused where
+    /// the second name is there.
     fn rename(
         &mut self,
         from: &Handle,
@@ -206,8 +206,8 @@ pub trait FileServer: Drop {
         requires to_name { is_name to_name.now ≡ true }
         ensures { Rename (state self.old) from.now name.now to.now to_name.now result (state self.new) };
 
-    /// Starts anew with the same nodes and numbers, each node under a handle that may be another. Errors: none but Fault
-    /// and NoMemory.
+    /// Starts anew with the same nodes and numbers, each node under a handle that may be another. Errors: none but
+    /// Fault and NoMemory.
     fn reboot(&mut self) -> Result<(), SrvErr>
         requires { HasTree (state self.old) }
         ensures { Reboot (state self.old) result (state self.new) };

@@ -46,9 +46,9 @@ pub fn service_runs()
         Always (IsServed (service limits)) ms }
 {}
 
-/// One step, from any moment. Where the state before it is right, at most f replicas are unsound there and no two texts kept
-/// there share a digest, its moments are Step's as long as at most f replicas are unsound, and each of these is right. A step
-/// whose Fetch walks down the digests is a loose one, and keeps what every state of a run keeps.
+/// One step, from any moment. Where the state before it is right, at most f replicas are unsound there and no two texts
+/// kept there share a digest, its moments are Step's as long as at most f replicas are unsound, and each of these is
+/// right. A step whose Fetch walks down the digests is a loose one, and keeps what every state of a run keeps.
 pub fn service_steps()
     ensures right { (limits : Limits) → IsSized limits → (faults : Faults) (event : Event) →
         FitsEvent (service limits) event → (m : Moment) (ms : List Moment) →
@@ -62,8 +62,8 @@ pub fn service_steps()
         LooseStep (service limits) faults event m ms × IsSteady (service limits) (last m ms).state }
 {}
 
-/// Fair is met at each moment of a run in which the server of one of four replicas fails, and of one in which one of four
-/// lies and is outvoted. It is not met where two of four are harmed.
+/// Fair is met at each moment of a run in which the server of one of four replicas fails, and of one in which one of
+/// four lies and is outvoted. It is not met where two of four are harmed.
 pub fn fairness()
     ensures one_fails { Always (IsFair (service four)) (run (service four) 4 one_failure asked) }
     ensures one_lies { Always (IsFair (service four)) (run (service four) 4 [] lying) }

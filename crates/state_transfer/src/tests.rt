@@ -1,5 +1,5 @@
-//! Fetches over trees of 16 and 256 texts. Which items are missing follows from the numbers: over entry 35 lie the nodes 2
-//! and 0.
+//! Fetches over trees of 16 and 256 texts. Which items are missing follows from the numbers: over entry 35 lie the
+//! nodes 2 and 0.
 
 ghost use Rattle.std.specs.Prelude.{◌≡◌, ◌≤◌, length, IfOk};
 ghost use Rattle.partition_tree.specs.Digests.{IsTreeSize};

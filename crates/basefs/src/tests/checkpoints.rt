@@ -15,7 +15,9 @@ const WITH_B: &str = "b7f29c77ef2685b2812639c92520b4ba2dea30161a0207471488e8507a
 
 /// The reply of the directory "b".
 const MADE: &str =
-    "reply 1 00000001000000010000000000000000000000000000000000000000424153450000000100000001000000000000000000000000000000000000000000000002000041ed000000020000fffe0000fffe000002000000100000000000000000010000000100000002000000010000000000000001000000000000000100000000";
+    "reply 1 000000010000000100000000000000000000000000000000000000004241534500000001000000010000000000000000000\
+        00000000000000000000000000002000041ed000000020000fffe0000fffe0000020000001000000000000000000100000001000\
+        00002000000010000000000000001000000000000000100000000";
 
 /// What is awaited: a text, or a stable place and its root.
 #[derive(Clone, Copy, Debug)]
@@ -25,7 +27,8 @@ enum Awaited {
     Stable(u32, &'static str),
 }
 
-/// The text of what is awaited. The reply of a call of the procedure 0 at place n, whose xid is 1, is the same but for n.
+/// The text of what is awaited. The reply of a call of the procedure 0 at place n, whose xid is 1, is the same but for
+/// n.
 fn text_of(alloc: Global, awaited: &[Awaited]) -> Result<Vec<u8>, Fail> {
     let mut text = Vec::new(alloc);
     for item in awaited {
@@ -90,8 +93,8 @@ fn three_roots_of_four_make_a_place_stable(rt: HostRuntime) -> Result<(), Fail> 
     Ok(())
 }
 
-/// A replica whose place and the interval lie below the stable place may not run. With an interval of 2 and four requests it
-/// is two places too far behind, with 4 it is not.
+/// A replica whose place and the interval lie below the stable place may not run. With an interval of 2 and four
+/// requests it is two places too far behind, with 4 it is not.
 #[test]
 fn a_replica_that_lags_is_behind(rt: HostRuntime) -> Result<(), Fail> {
     let alloc = rt.alloc();

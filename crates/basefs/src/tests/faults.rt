@@ -1,5 +1,6 @@
-//! Several replicas, of which the servers of one or two fail. The calls are CREATE 9, WRITE 8, READ 6, MKDIR 14, SYMLINK 13,
-//! READLINK 5, LINK 12, RENAME 11, SETATTR 2, LOOKUP 4, READDIR 16, REMOVE 10, RMDIR 15 and GETATTR 1 (RFC 1094, 2.2).
+//! Several replicas, of which the servers of one or two fail. The calls are CREATE 9, WRITE 8, READ 6, MKDIR 14,
+//! SYMLINK 13, READLINK 5, LINK 12, RENAME 11, SETATTR 2, LOOKUP 4, READDIR 16, REMOVE 10, RMDIR 15 and GETATTR 1
+//! (RFC 1094, 2.2).
 
 ghost use Rattle.std.specs.Prelude.{◌<◌, ◌≤◌};
 
@@ -112,8 +113,8 @@ const ROWS: [u32; 27] = [
     1, 4, 1, 0x6c000000, 5, 0, 1,
 ];
 
-/// The roots behind the sixth and the twelfth of the calls below, as a script worked them out from the texts of entries and
-/// nodes.
+/// The roots behind the sixth and the twelfth of the calls below, as a script worked them out from the texts of entries
+/// and nodes.
 const ROOTS: [Root; 2] = [
     (
         6,
@@ -146,8 +147,9 @@ fn all_kinds(alloc: Global) -> Result<Session, AllocError> {
     Ok(s)
 }
 
-/// The server of a replica fails at the first six calls of a kind in turn, and then at each eighth. Of four replicas one fails
-/// at the odd ones of these, and of seven at the second. Whether there is such a call where there is one replica.
+/// The server of a replica fails at the first six calls of a kind in turn, and then at each eighth. Of four replicas
+/// one fails at the odd ones of these, and of seven at the second. Whether there is such a call where there is one
+/// replica.
 fn fails_at_each(alloc: Global, s: &Session, call: SrvCall) -> Result<bool, Fail> {
     for at in 1..=30u64 {
         let number = if at <= 6 { at } else { 8 * at - 48 };

@@ -84,19 +84,24 @@ const HARMED: [(u32, &[u32], &str); 10] = [
         &[
             LIE_ROOT, 0, 1, 0, 0, 0, 0, 0, 0, 0, 0, LIE_ITEM, 2, 1, 0, 4, 0x78000000, RUN_ALL, END,
         ],
-        "reply 1 000000010000000100000000000000000000000000000000\nstable 1 8c5087b7545319bb98efafcc7a88977d0082f590f2a042f3bbcbb12ddc9bbb82\nat 0 1\nat 1 1\nat 2 1\nat 3 1\n",
+        "reply 1 000000010000000100000000000000000000000000000000\n\
+            stable 1 8c5087b7545319bb98efafcc7a88977d0082f590f2a042f3bbcbb12ddc9bbb82\nat 0 1\nat 1 1\nat 2 1\n\
+            at 3 1\n",
     ),
     // A replica that runs no request casts the root of its array.
     (
         1,
         &[SKIP, 3, RUN, 1, RUN, 2, END],
-        "reply 1 000000010000000100000000000000000000000000000000\nstable 1 8c5087b7545319bb98efafcc7a88977d0082f590f2a042f3bbcbb12ddc9bbb82\nat 0 0\nat 1 1\nat 2 1\nat 3 1\n",
+        "reply 1 000000010000000100000000000000000000000000000000\n\
+            stable 1 8c5087b7545319bb98efafcc7a88977d0082f590f2a042f3bbcbb12ddc9bbb82\nat 0 0\nat 1 1\nat 2 1\n\
+            at 3 1\n",
     ),
     // Nothing is left to run.
     (
         4,
         &[RUN_ALL, ROGUE, 0, 1, 0, 0, SKIP, 2, END],
-        "reply 1 000000010000000100000000000000000000000000000000\nidle 0 at-end\nidle 2 at-end\nat 0 1\nat 1 1\nat 2 1\nat 3 1\n",
+        "reply 1 000000010000000100000000000000000000000000000000\nidle 0 at-end\nidle 2 at-end\nat 0 1\nat 1 1\n\
+            at 2 1\nat 3 1\n",
     ),
 ];
 
@@ -152,8 +157,8 @@ fn a_rogue_whose_server_fails(rt: HostRuntime) -> Result<(), Fail> {
     };
     let mut bench = bench_of(alloc, 4, &[Some(fault)])?;
     let (status, text) = run_bench(alloc, log, WHOLE, &mut bench)?;
-    let lines =
-        "down 0\nidle 0 not-live\nidle 0 not-live\nidle 0 not-live\nreply 1 000000010000000100000000000000000000000000000000\nat 0 down\nat 1 1\nat 2 1\nat 3 1\n";
+    let lines = "down 0\nidle 0 not-live\nidle 0 not-live\nidle 0 not-live\n\
+            reply 1 000000010000000100000000000000000000000000000000\nat 0 down\nat 1 1\nat 2 1\nat 3 1\n";
     let point = FaultPoint {
         event: 2,
         stage: 0,

@@ -1,4 +1,5 @@
-//! Records that give a replica up. Two equal words of four replicas decide a place, and three equal roots make it stable.
+//! Records that give a replica up. Two equal words of four replicas decide a place, and three equal roots make it
+//! stable.
 
 use super::session::{Fault, bench_of};
 use super::{END, REBOOT, REPLY, RUN, RUN_ALL, WHOLE, header, log_of, null_request, run_bench};
@@ -150,8 +151,8 @@ pub fn from_number(call: SrvCall, number: u64) -> Option<Fault> {
     })
 }
 
-/// The server fails at each reboot. The words are withdrawn all the same, and a replica that is down is wiped in place of
-/// a reboot.
+/// The server fails at each reboot. The words are withdrawn all the same, and a replica that is down is wiped in place
+/// of a reboot.
 #[test]
 fn a_server_fails_in_its_reboot(rt: HostRuntime) -> Result<(), Fail> {
     let words = [

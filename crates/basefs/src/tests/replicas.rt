@@ -51,7 +51,8 @@ fn replicas_run_one_by_one(rt: HostRuntime) -> Result<(), Fail> {
             7,
             [RUN, 6, RUN, 4, RUN, 5, END].as_slice(),
             Status::Done,
-            "reply 1 000000010000000100000000000000000000000000000000\nat 0 0\nat 1 0\nat 2 0\nat 3 0\nat 4 1\nat 5 1\nat 6 1\n",
+            "reply 1 000000010000000100000000000000000000000000000000\nat 0 0\nat 1 0\nat 2 0\nat 3 0\nat 4 1\n\
+                at 5 1\nat 6 1\n",
         ),
         (1, 10, [RUN, 4].as_slice(), Status::BadLog { at: 84 }, ""),
         // A word stands behind the last record.

@@ -39,8 +39,8 @@ pub fn directory(fileid: u32, time: u32) -> [u32; 17] {
     ]
 }
 
-/// Where the server of a replica fails: at the call of a kind with this number, counted from 1, and at each behind it. It
-/// gets that call in the record with the number `event`, the start being 0.
+/// Where the server of a replica fails: at the call of a kind with this number, counted from 1, and at each behind it.
+/// It gets that call in the record with the number `event`, the start being 0.
 #[derive(Clone, Copy, Debug, PartialEq, Eq)]
 pub struct Fault {
     pub call: SrvCall,
@@ -119,8 +119,8 @@ impl Course {
         Ok(())
     }
 
-    /// Each replica runs a request. f + 1 of them decide the reply, and 2f + 1 make the place stable where it is that of a
-    /// checkpoint.
+    /// Each replica runs a request. f + 1 of them decide the reply, and 2f + 1 make the place stable where it is that
+    /// of a checkpoint.
     fn runs(
         &mut self,
         alloc: Global,
@@ -296,8 +296,8 @@ impl Session {
         Ok(course)
     }
 
-    /// Runs the log over these servers, of which those of the replicas have these faults. It fails unless the run prints
-    /// the lines of the votes, and has the fault points of the faults.
+    /// Runs the log over these servers, of which those of the replicas have these faults. It fails unless the run
+    /// prints the lines of the votes, and has the fault points of the faults.
     fn runs_over(
         &self,
         alloc: Global,

@@ -18,8 +18,8 @@ use server_trait::{Bench, FaultPoint, FileServer, Srv};
 use std::alloc::Global;
 
 impl Cluster {
-    /// A replica that is being rebuilt gets at most so many items of the stable place from the others, and is live there
-    /// once nothing is missing. Where it is not being rebuilt, a line says so.
+    /// A replica that is being rebuilt gets at most so many items of the stable place from the others, and is live
+    /// there once nothing is missing. Where it is not being rebuilt, a line says so.
     pub(super) fn fetch(
         &mut self,
         alloc: Global,
@@ -55,8 +55,8 @@ impl Cluster {
         self.end_fetch(alloc, bench, met, lines, stage, r)
     }
 
-    /// Gets an item at each stage, at most so many, up to a stage at which nothing is missing or no replica has what is.
-    /// How many were got.
+    /// Gets an item at each stage, at most so many, up to a stage at which nothing is missing or no replica has what
+    /// is. How many were got.
     fn collect(
         &mut self,
         alloc: Global,

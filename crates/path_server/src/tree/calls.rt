@@ -94,8 +94,8 @@ impl PathTree {
         }
     }
 
-    /// Puts bytes from the front of a piece, at least one, at an offset of a file, and answers how many. A gap before the
-    /// offset is zeros. Errors: Stale, WrongKind, Refused where the offset lies past the end, and Full.
+    /// Puts bytes from the front of a piece, at least one, at an offset of a file, and answers how many. A gap before
+    /// the offset is zeros. Errors: Stale, WrongKind, Refused where the offset lies past the end, and Full.
     pub fn write(&mut self, file: &Handle, offset: u32, piece: &[u8]) -> Result<u32, SrvErr>
         requires tree { HasTree (state_of self.old) }
         requires some { 1 ≤ length piece.now }
@@ -244,9 +244,9 @@ impl PathTree {
         }
     }
 
-    /// Moves a name of one directory to a name of another. What the second name led to is replaced; where both names are
-    /// of one node nothing changes. Errors: Stale, NotDir, NoEnt, WrongKind, NotEmpty, Subtree, and Refused where the
-    /// second name is there.
+    /// Moves a name of one directory to a name of another. What the second name led to is replaced; where both names
+    /// are of one node nothing changes. Errors: Stale, NotDir, NoEnt, WrongKind, NotEmpty, Subtree, and Refused where
+    /// the second name is there.
     pub fn rename(
         &mut self,
         from: &Handle,

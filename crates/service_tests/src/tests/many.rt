@@ -37,7 +37,8 @@ fn long_name(number: u32) -> [u32; 65] {
 /// Makes the names in the root.
 pub fn filled(alloc: Global, service: &mut Service) -> Result<(), Fail>
     requires { IsReady service.old.limits (⟦<Srv as FileServer>⟧.state service.old.server) service.old.table }
-    ensures { OnOk result (IsReady service.new.limits (⟦<Srv as FileServer>⟧.state service.new.server) service.new.table) }
+    ensures { OnOk result
+        (IsReady service.new.limits (⟦<Srv as FileServer>⟧.state service.new.server) service.new.table) }
 {
     for number in 0..MANY {
         service.gives(alloc, 0, 9, &[&ROOT, &short_name(number), &KEEP])?;
@@ -48,7 +49,8 @@ pub fn filled(alloc: Global, service: &mut Service) -> Result<(), Fail>
 /// How many entries the root has, by READDIR in pages of so many bytes.
 pub fn paged(alloc: Global, service: &mut Service, count: u32) -> Result<usize, Fail>
     requires { IsReady service.old.limits (⟦<Srv as FileServer>⟧.state service.old.server) service.old.table }
-    ensures { OnOk result (IsReady service.new.limits (⟦<Srv as FileServer>⟧.state service.new.server) service.new.table) }
+    ensures { OnOk result
+        (IsReady service.new.limits (⟦<Srv as FileServer>⟧.state service.new.server) service.new.table) }
 {
     let mut cookie = 0;
     let mut found: usize = 0;
@@ -73,7 +75,8 @@ pub fn paged(alloc: Global, service: &mut Service, count: u32) -> Result<usize, 
 pub fn chained(alloc: Global, service: &mut Service, first: u32) -> Result<(), Fail>
     requires few { first ≤ 1000 }
     requires ready { IsReady service.old.limits (⟦<Srv as FileServer>⟧.state service.old.server) service.old.table }
-    ensures { OnOk result (IsReady service.new.limits (⟦<Srv as FileServer>⟧.state service.new.server) service.new.table) }
+    ensures { OnOk result
+        (IsReady service.new.limits (⟦<Srv as FileServer>⟧.state service.new.server) service.new.table) }
 {
     service.gives(alloc, 0, 14, &[&ROOT, &long_name(0), &KEEP])?;
     for number in 1..DEPTH {
