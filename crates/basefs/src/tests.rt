@@ -3,12 +3,17 @@
 mod calls;
 mod checkpoints;
 mod faults;
+mod fetch_faults;
+mod fetches;
 mod harm;
 mod mount;
 mod names;
+mod objects;
+mod random;
 mod reboots;
 mod replicas;
 mod session;
+mod sources;
 mod space;
 mod stops;
 

@@ -1,21 +1,20 @@
 //! The names of a directory, the newest first.
 
-ghost use Rattle.std.specs.Prelude.{◌≡◌, ◌+◌, ◌≤◌, ◌<◌, IfOk, OnOk, drop, length};
+ghost use Rattle.std.specs.Prelude.{◌≡◌, ◌+◌, ◌≤◌, IfOk};
 ghost use Rattle.server_trait.specs.Calls.{ListNames, Lists};
 ghost use Rattle.server_trait.specs.Tree.{names_at};
-ghost use Rattle.log_segments.specs.Record.{key_of};
-ghost use Rattle.log_records.specs.Layout.{child_in, key_size, value_of};
-ghost use Rattle.log_tree.specs.Held.{handle_of, names_of};
+ghost use Rattle.log_records.specs.Layout.{key_size};
+ghost use Rattle.log_tree.specs.Held.{names_of};
 ghost use Rattle.log_store.specs.Store.{IsStore, Reads, live_in, records_in};
 ghost use Rattle.log_held.specs.Sound.{ArePlaced};
 ghost use Rattle.log_changes.specs.Kept.{Changes, IsKept, log_live, log_tree};
-ghost use Rattle.log_calls.specs.Rows.{ListsFrom};
+ghost use Rattle.log_calls.specs.Rows.{IsNamePlace, row_from, row_in};
 ghost use Rattle.log_calls.specs.State.{Does};
 
 use crate::answers::answered;
 use crate::found::{find_dir, handle_of};
 use log_changes::LogTree;
-use log_records::{NodeId, is_of_name, read_child, read_id};
+use log_records::{NodeId, read_child};
 use log_store::LogStore;
 use nfs2_types::{Blob, Handle, NoMemory};
 use outside::{Block, Medium, MediumErr};
@@ -26,8 +25,7 @@ use std::alloc::Global;
 fn row_of(alloc: Global, block: &Block) -> Result<Listed, NoMemory>
     requires long { 9 ≤ key_size block.now }
     requires room { key_size block.now + 8 ≤ 509 }
-    ensures { let key = key_of block.now in let child = child_in (value_of block.now) in
-        IfOk result (λ row. row ≡ record { name = drop 9 key; handle = handle_of child }) }
+    ensures { IfOk result (λ row. row ≡ row_in block.now) }
 {
     let size = 256 * (block[1] as usize) + (block[2] as usize);
     let name = Blob::from_slice(alloc, &block[12..3 + size])?;
@@ -37,35 +35,23 @@ fn row_of(alloc: Global, block: &Block) -> Result<Listed, NoMemory>
     })
 }
 
-/// Adds the row of the record at a place, if it is a live one of a name of the directory.
-fn add_row<M: Medium>(
+/// The row of the record at a place, which is a live one of a name.
+fn row_at<M: Medium>(
     alloc: Global,
     store: &mut LogStore<M>,
-    dir: &NodeId,
     place: u32,
-    rows: &mut Vec<Listed>,
-) -> Result<(), MediumErr>
+) -> Result<Listed, MediumErr>
     requires store { IsStore M.content M.size store.old }
     requires placed { ArePlaced (live_in M.content M.size store.old) }
-    requires within { place < length (records_in M.content M.size store.old) }
-    requires rows { ListsFrom (records_in M.content M.size store.old) (place + 1) dir.now rows.old.items }
-    ensures rows { OnOk result (ListsFrom (records_in M.content M.size store.old) place dir.now rows.new.items) }
+    requires named { IsNamePlace (records_in M.content M.size store.old) place }
+    ensures row { IfOk result (λ row. row ≡ row_from (records_in M.content M.size store.old) place) }
     ensures reads { Reads M.content M.size M.faults store.old store.new result }
 {
-    let Some(block) = store.live_at(place)? else {
-        return Ok(());
-    };
-    if !is_of_name(&block) {
-        return Ok(());
-    }
-    if read_id(&block) != *dir {
-        return Ok(());
-    }
-    rows.push(row_of(alloc, &block)?)?;
-    Ok(())
+    let block = store.read(place)?;
+    Ok(row_of(alloc, &block)?)
 }
 
-/// The names of a directory, those of the newest records first.
+/// The names of a directory, those of the newest records first. It reads a block for each name.
 fn rows_of<M: Medium>(
     alloc: Global,
     store: &mut LogStore<M>,
@@ -76,10 +62,10 @@ fn rows_of<M: Medium>(
     ensures rows { IfOk result (λ rows. Lists rows.items (names_of (live_in M.content M.size store.old) dir.now)) }
     ensures reads { Reads M.content M.size M.faults store.old store.new result }
 {
+    let places = store.name_places(dir)?;
     let mut rows = Vec::new(alloc);
-    let count = store.len();
-    for step in 0..count {
-        add_row(alloc, store, dir, count - 1 - step, &mut rows)?;
+    for place in &places {
+        rows.push(row_at(alloc, store, *place)?)?;
     }
     Ok(rows)
 }

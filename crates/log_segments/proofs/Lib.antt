@@ -1,10 +1,12 @@
 pub mod Blocks
 pub mod Copies
 pub mod Ends
+pub mod Falling
 pub mod Finds
 pub mod Halves
 pub mod LiveAt
 pub mod LiveLaws
 pub mod MapViews
+pub mod Prefixes
 pub mod Puts
 pub mod Replays

@@ -1,5 +1,5 @@
 -- Of each key the newest record, in a list of records with the oldest first.
-use Rattle.std.specs.Prelude.{◌≡◌, ◌+◌, ◌++◌, ℕ, List, [], ◌∷◌, Bool, true, false, Option, Some, None, cond, drop, bytes_eq}
+use Rattle.std.specs.Prelude.{◌≡◌, ◌+◌, ◌++◌, ◌<◌, ℕ, List, [], ◌∷◌, Bool, true, false, Option, Some, None, cond, drop, slice_get, bytes_eq}
 use Rattle.log_segments.specs.Record.{is_gone, key_of}
 
 -- a record of the list has this key
@@ -45,3 +45,11 @@ place_from at place (r ∷ rs) key =
 -- where the newest record of a key stands among all records, if it stands
 abbrev pub place_of : List (List ℕ) → List ℕ → Option ℕ
 place_of rs key = place_from 0 None rs key
+
+-- these are the places where the newest records of all keys with a prefix stand, each once, the newest first
+pub record ArePlacesUnder (records : List (List ℕ)) (prefix places : List ℕ) : Type 0 where
+  pub sound : (k p : ℕ) → slice_get places k ≡ Some p
+      → (rest : List ℕ) × (place_of records (prefix ++ rest) ≡ Some p)
+  pub complete : (rest : List ℕ) (p : ℕ) → place_of records (prefix ++ rest) ≡ Some p
+      → (k : ℕ) × (slice_get places k ≡ Some p)
+  pub falling : (j k p q : ℕ) → slice_get places j ≡ Some p → slice_get places k ≡ Some q → j < k → q < p

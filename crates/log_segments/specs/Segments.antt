@@ -1,5 +1,6 @@
 -- A log on a medium: block 0 names the current half, and each half has its records from its start to its end mark.
-use Rattle.std.specs.Prelude.{◌≡◌, ◌+◌, ◌-◌, ◌/◌, ◌^◌, ◌<◌, ◌⊎◌, ℕ, zero, suc, List, [], ◌∷◌, ◌++◌, Bool, None, Some, bytes_eq, cond, length}
+use Rattle.std.specs.Prelude.{◌≡◌, ◌+◌, ◌-◌, ◌/◌, ◌^◌, ◌<◌, ◌⊎◌, ◌↔◌, ℕ, zero, suc, List, [], ◌∷◌, ◌++◌, Bool, None, Some, IsTrue, bytes_eq, cond, length}
+use Rattle.std.specs.BTreeSet.{BTreeSet, contains}
 use Rattle.std.specs.FinMap as map
 use Rattle.std.specs.FinMap.{FinMap}
 use Rattle.std.specs.Ordering.{nat_cmp}
@@ -45,6 +46,11 @@ live_records content size = live (records content size)
 -- a key's newest record stands at this place of the half, or its key is gone
 pub record IsNoted (old new : FinMap (slice_cmp nat_cmp) ℕ) (key : List ℕ) (gone : Bool) (place : ℕ) : Type 0 where
   pub at : (k : List ℕ) → map.get new k ≡ cond (bytes_eq key k) (cond gone None (Some place)) (map.get old k)
+
+-- the set has the places of all keys that begin with a prefix, and no other
+abbrev pub HasUnder : FinMap (slice_cmp nat_cmp) ℕ → List ℕ → BTreeSet ℕ → Type 0
+HasUnder places prefix set =
+    (p : ℕ) → IsTrue (contains nat_cmp set p) ↔ ((rest : List ℕ) × (map.get places (prefix ++ rest) ≡ Some p))
 
 -- start, end and places are those of the records on the medium
 pub record IsOpen (content : ℕ → List ℕ) (size start end : ℕ) (places : FinMap (slice_cmp nat_cmp) ℕ) : Type 0 where

@@ -11,6 +11,7 @@ mod record;
 mod replay;
 #[cfg(test)]
 mod tests;
+mod under;
 
 pub use key::Key;
 pub use log::Log;

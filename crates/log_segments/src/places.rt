@@ -1,13 +1,13 @@
 //! Where records stand.
 
-ghost use Rattle.std.specs.Prelude.{◌≡◌, ◌↔◌, Some, IsTrue, OnOk};
+ghost use Rattle.std.specs.Prelude.{◌≡◌, ◌↔◌, Some, IfOk, IsTrue, OnOk};
 ghost use Rattle.std.specs.FinMap as map;
-ghost use Rattle.log_segments.specs.Segments.{IsNoted};
+ghost use Rattle.log_segments.specs.Segments.{HasUnder, IsNoted};
 
 use crate::key::Key;
 use nfs2_types::NoMemory;
 use std::alloc::{AllocError, Global};
-use std::collections::BTreeMap;
+use std::collections::{BTreeMap, BTreeSet};
 use std::marker::Model;
 
 /// Where in the current half the newest record of each key stands.
@@ -52,6 +52,20 @@ impl Places {
         ensures { IsTrue result ↔ (map.get self.now key.now ≡ Some place) }
     {
         self.get(key) == Some(place)
+    }
+
+    /// The places of all keys that begin with these bytes. No other key is looked at, but for the one behind them.
+    pub fn under(&self, alloc: Global, prefix: &Key) -> Result<BTreeSet<u32>, AllocError>
+        ensures { IfOk result (HasUnder self.now prefix.now) }
+    {
+        let mut places = BTreeSet::new(alloc);
+        for (key, place) in self.places.range(prefix..) {
+            if !key.as_slice().starts_with(prefix.as_slice()) {
+                break;
+            }
+            places.insert(*place)?;
+        }
+        Ok(places)
     }
 
     /// Gives a key a place.

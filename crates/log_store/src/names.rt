@@ -1,15 +1,17 @@
 //! The names of directories.
 
-ghost use Rattle.std.specs.Prelude.{◌≡◌, ◌≤◌, length, IfOk, OnOk, option_map};
+ghost use Rattle.std.specs.Prelude.{◌≡◌, ◌≤◌, ◌∷◌, length, IfOk, OnOk, option_map};
 ghost use Rattle.std.specs.FinMap.{get};
 ghost use Rattle.server_trait.specs.Tree.{named, unnamed};
+ghost use Rattle.log_segments.specs.Newest.{ArePlacesUnder};
 ghost use Rattle.log_tree.specs.Held.{handle_of, names_of};
 ghost use Rattle.log_records.specs.Layout as layout;
 ghost use Rattle.log_records.specs.Layout.{child_in};
-ghost use Rattle.log_store.specs.Store.{IsStore, HasRoom, KeepsOthers, Puts, Drops, Reads, Writes, live_in, tree_in};
+ghost use Rattle.log_store.specs.Store.{IsStore, HasRoom, KeepsOthers, Puts, Drops, Reads, Writes, live_in, records_in, tree_in};
 
 use crate::store::LogStore;
 use log_records::{NodeId, gone_record, name_key, name_record, read_child};
+use nfs2_types::NoMemory;
 use outside::{Medium, MediumErr};
 
 impl<M: Medium> LogStore<M> {
@@ -26,6 +28,17 @@ impl<M: Medium> LogStore<M> {
             Some(block) => Ok(Some(read_child(&block))),
             None => Ok(None),
         }
+    }
+
+    /// Where in the log the records of a directory's names stand, the newest first. It reads no block, and looks at no
+    /// other key.
+    pub fn name_places(&self, dir: &NodeId) -> Result<Vec<u32>, NoMemory>
+        requires { IsStore M.content M.size self.now }
+        ensures { let records = records_in M.content M.size self.now in
+            IfOk result (λ places. ArePlacesUnder records (2 ∷ dir.now) places.items) }
+    {
+        let prefix = name_key(self.alloc, dir, &[])?;
+        self.log.places_under(&prefix)
     }
 
     /// Makes a name of a directory lead to a node.

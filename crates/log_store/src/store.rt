@@ -1,6 +1,6 @@
 //! A store on a log.
 
-ghost use Rattle.std.specs.Prelude.{◌≡◌, ◌<◌, ◌≤◌, false, [], length, OnOk, IfOk, IfSome};
+ghost use Rattle.std.specs.Prelude.{◌≡◌, ◌<◌, ◌≤◌, false, [], length, slice_get, OnOk, IfOk, IfSome, Some};
 ghost use Rattle.outside.specs.Causes.{WriteHasCause};
 ghost use Rattle.log_segments.specs.Newest.{IsLiveAt, after, find};
 ghost use Rattle.log_segments.specs.Record.{is_end, is_gone};
@@ -67,6 +67,18 @@ impl<M: Medium> LogStore<M> {
         ensures { result ≡ length (records_in M.content M.size self.now) }
     {
         self.log.len()
+    }
+
+    /// The record at a place of the log, of which the oldest is at 0.
+    pub fn read(&mut self, place: u32) -> Result<Block, MediumErr>
+        requires store { IsStore M.content M.size self.old }
+        requires within { place < length (records_in M.content M.size self.old) }
+        ensures read { IfOk result (λ block. slice_get (records_in M.content M.size self.old) place ≡ Some block) }
+        ensures whole { IfOk result (λ block. length block ≡ 512) }
+        ensures reads { Reads M.content M.size M.faults self.old self.new result }
+    {
+        let block = self.log.read(place)?;
+        Ok(block)
     }
 
     /// The record at a place of the log, of which the oldest is at 0, where it is the newest of its key and stands.

@@ -1,0 +1,12 @@
+use Rattle.service_tables.specs.Ready.{IsReady}
+use Rattle.service_tables.proofs.many.chained.Given as goal
+
+abbrev pub invariant-loop-number : goal.invariant-loop-number
+invariant-loop-number g l = IsReady l.service.limits
+    ((goal.FileServer-dyn g (l.service.server.vtable, l.service.server.value)).state l.service.server.value)
+    l.service.table
+
+abbrev pub invariant-loop-number-2 : goal.invariant-loop-number-2
+invariant-loop-number-2 g l = IsReady l.service.limits
+    ((goal.FileServer-dyn g (l.service.server.vtable, l.service.server.value)).state l.service.server.value)
+    l.service.table
